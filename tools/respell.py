@@ -52,7 +52,7 @@ def declared():
                 found[it.group(1)].add(path)
                 inside = True
             elif not line[0].isspace():
-                inside = False
+                inside = line.startswith("module ")
                 it = TOP.match(line)
                 if it:
                     found[it.group(1)].add(path)

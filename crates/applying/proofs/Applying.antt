@@ -14,16 +14,16 @@ use Rattle.task.specs.Table.{Row, row_at, under_kind, effect_kind}
 use Rattle.task.specs.Rules.{no_row}
 use Rattle.task.specs.Semantics.{holds, apply}
 use Rattle.task.specs.Tree.{formula_of, effect_of}
-use Rattle.task.proofs.Bounded.{and_left, and_right, and_both, length-upto, getD-upto}
+use Rattle.task.proofs.Bounded.{and_left, and_right, and_both, length_upto, getD_upto}
 use Rattle.task.proofs.KindNumbers.{by_effect_kind}
 use Rattle.task.specs.Inner.Rows.{EffectsDown}
 use Rattle.task.proofs.Values.{told_bit}
 use Rattle.task.specs.Inner.Values.{bit, told, Values}
 use Rattle.task.proofs.Marks as Marks
-use Rattle.task.proofs.Changes.{kind_acts, row_changes, changes, changes-apply}
+use Rattle.task.proofs.Changes.{kind_acts, row_changes, changes, changes_apply}
 use Rattle.evaluating.specs.Inner.Values.{rows_of}
 use Rattle.applying.specs.Inner.Marks.{on, marked, acts, changed, HandsTo, to_left, to_right, to_inner, Reached, at_root, handed, Markable, Marked}
-use Rattle.applying.proofs.Marking.{reached-below, inner_below}
+use Rattle.applying.proofs.Marking.{reached_below, inner_below}
 
 on_bit : (b : Bool) → not (eqb (bit b) 0) ≡ b
 unfolding bit
@@ -52,48 +52,48 @@ module _
     (known : Values s formulas at before)
     (marking : Marked words at root before after) where
   row_same : (i : ℕ) → i ≤ root → get_or (rows_of e words) i no_row ≡ row_at words i
-  row_same i h = getD-upto e (row_at words) i no_row (omega arith)
+  row_same i h = getD_upto e (row_at words) i no_row (omega arith)
 
-  holding-same : (a : ℕ) → a < at → on before a ≡ holds s (formula_of formulas a)
+  holding_same : (a : ℕ) → a < at → on before a ≡ holds s (formula_of formulas a)
   unfolding on
-  holding-same a h = rw (known.at a h) (on_bit (holds s (formula_of formulas a)))
+  holding_same a h = rw (known.at a h) (on_bit (holds s (formula_of formulas a)))
 
   -- the rows that are reached are the rows that the law of effect conditions marks
-  hands-law :
+  hands_law :
       (i j : ℕ)
       → i ≤ root
       → Marks.Marked s formulas (rows_of e words) root i
       → HandsTo words (on before) i j
       → Marks.Marked s formulas (rows_of e words) root j
-  hands-law i j h m (to_left q) = rw (← row_same i h) (Marks.left i m (rw (row_same i h) q))
-  hands-law i j h m (to_right q) = rw (← row_same i h) (Marks.right i m (rw (row_same i h) q))
-  hands-law i j h m (to_inner q t) =
+  hands_law i j h m (to_left q) = rw (← row_same i h) (Marks.left i m (rw (row_same i h) q))
+  hands_law i j h m (to_right q) = rw (← row_same i h) (Marks.right i m (rw (row_same i h) q))
+  hands_law i j h m (to_inner q t) =
       rw (← row_same i h)
       (Marks.inner i m (rw (row_same i h) q)
-      (rw (row_same i h) (sym (holding-same (row_at words i).a (inner_below words v at i (able.rule i h) q)) ∙ t)))
+      (rw (row_same i h) (sym (holding_same (row_at words i).a (inner_below words v at i (able.rule i h) q)) ∙ t)))
 
-  to-law : (j : ℕ) → Reached words (on before) root j → Marks.Marked s formulas (rows_of e words) root j
-  to-law j at_root = Marks.at_root
-  to-law j (handed i k r t) = hands-law i j (reached-below words v at root before able (on before) i r) (to-law i r) t
+  to_law : (j : ℕ) → Reached words (on before) root j → Marks.Marked s formulas (rows_of e words) root j
+  to_law j at_root = Marks.at_root
+  to_law j (handed i k r t) = hands_law i j (reached_below words v at root before able (on before) i r) (to_law i r) t
 
   below : (j : ℕ) → Marks.Marked s formulas (rows_of e words) root j → j ≤ root
-  below = Marks.marked-below s formulas (rows_of e words) root v at down (rw (length-upto e (row_at words)) in_table)
+  below = Marks.marked_below s formulas (rows_of e words) root v at down (rw (length_upto e (row_at words)) in_table)
 
-  from-law : (j : ℕ) → Marks.Marked s formulas (rows_of e words) root j → Reached words (on before) root j
-  from-law j Marks.at_root = at_root
-  from-law j (Marks.left i m q) =
+  from_law : (j : ℕ) → Marks.Marked s formulas (rows_of e words) root j → Reached words (on before) root j
+  from_law j Marks.at_root = at_root
+  from_law j (Marks.left i m q) =
       let same = row_same i (below i m) in
-      rw same (handed i (row_at words i).a (from-law i m) (to_left (rw same at q)))
-  from-law j (Marks.right i m q) =
+      rw same (handed i (row_at words i).a (from_law i m) (to_left (rw same at q)))
+  from_law j (Marks.right i m q) =
       let same = row_same i (below i m) in
-      rw same (handed i (row_at words i).b (from-law i m) (to_right (rw same at q)))
-  from-law j (Marks.inner i m q t) =
+      rw same (handed i (row_at words i).b (from_law i m) (to_right (rw same at q)))
+  from_law j (Marks.inner i m q t) =
       let same = row_same i (below i m) in
       let kind : effect_kind (row_at words i).kind ≡ under_kind = rw same at q in
       let holding : holds s (formula_of formulas (row_at words i).a) ≡ true = rw same at t in
       rw same
-      (handed i (row_at words i).b (from-law i m)
-      (to_inner kind (holding-same (row_at words i).a (inner_below words v at i (able.rule i (below i m)) kind) ∙ holding)))
+      (handed i (row_at words i).b (from_law i m)
+      (to_inner kind (holding_same (row_at words i).a (inner_below words v at i (able.rule i (below i m)) kind) ∙ holding)))
 
   -- the marks as a list of their own, 0 above the root
   mark_of : ℕ → Bool
@@ -102,32 +102,32 @@ module _
   marks : List ℕ
   marks = upto e (λ j. bit (mark_of j))
 
-  mark-told : (j : ℕ) → j < e → told marks j ≡ mark_of j
+  mark_told : (j : ℕ) → j < e → told marks j ≡ mark_of j
   unfolding marks
-  mark-told j h = rw (getD-upto e (λ (i : ℕ). bit (mark_of i)) j 0 h) (told_bit (mark_of j))
+  mark_told j h = rw (getD_upto e (λ (i : ℕ). bit (mark_of i)) j 0 h) (told_bit (mark_of j))
 
   agrees : (j : ℕ) → j < length (rows_of e words) → get_or marks j 0 ≡ 1 ↔ Marks.Marked s formulas (rows_of e words) root j
   unfolding mark_of
   agrees j h = (
     λ q.
-        let both : mark_of j ≡ true = sym (mark-told j here) ∙ eq-eqb (get_or marks j 0) 1 q in
+        let both : mark_of j ≡ true = sym (mark_told j here) ∙ eq-eqb (get_or marks j 0) 1 q in
         let low : j ≤ root = leb-true j root (and_left (leb j root) (marked after at j) both) in
-        to-law j ((marking.acting j low).0 (and_right (leb j root) (marked after at j) both)),
+        to_law j ((marking.acting j low).0 (and_right (leb j root) (marked after at j) both)),
     λ m.
         eqb-true (get_or marks j 0) 1
-        (mark-told j here ∙ and_both (le-leb j root (below j m)) ((marking.acting j (below j m)).1 (from-law j m))),
+        (mark_told j here ∙ and_both (le-leb j root (below j m)) ((marking.acting j (below j m)).1 (from_law j m))),
   )
     where
       here : j < e
-      here = rw (length-upto e (row_at words)) at h
+      here = rw (length_upto e (row_at words)) at h
 
-  acts-agrees :
+  acts_agrees :
       (p : Bool) (n : ℕ)
       → n ≤ root
       → (told marks n && kind_acts p (effect_kind (row_at words n).kind)) ≡ acts words (number_of p) after at n
   unfolding acts mark_of
-  acts-agrees p n h =
-      let mark : told marks n ≡ marked after at n = mark-told n (omega arith) ∙ rw (le-leb n root h) in
+  acts_agrees p n h =
+      let mark : told marks n ≡ marked after at n = mark_told n (omega arith) ∙ rw (le-leb n root h) in
       ap₂ ◌&&◌ mark (kind_acts_number p (row_at words n).kind)
 
   -- up to the root the passes are the same, and above it nothing is marked
@@ -138,27 +138,27 @@ module _
   unfolding changes row_changes changed
   low_rows p zero t h = refl
   low_rows p (suc n) t h =
-      rw (row_same n (omega arith), low_rows p n t (omega arith), acts-agrees p n (omega arith))
+      rw (row_same n (omega arith), low_rows p n t (omega arith), acts_agrees p n (omega arith))
 
-  high-rows :
+  high_rows :
       (p : Bool) (d : ℕ) (t : List ℕ)
       → root + 1 + d ≤ e
       → changes p marks (rows_of e words) (root + 1 + d) t ≡ changes p marks (rows_of e words) (root + 1) t
   unfolding changes row_changes mark_of
-  high-rows p zero t h = rw add-zero
-  high-rows p (suc d) t h =
+  high_rows p zero t h = rw add-zero
+  high_rows p (suc d) t h =
       let off : told marks (root + 1 + d) ≡ false =
-      mark-told (root + 1 + d) (omega arith) ∙ rw (lt-leb (root + 1 + d) root (omega arith)) in
-      rw (add-suc (root + 1) d, changes, row_changes, off) (high-rows p d t (omega arith))
+      mark_told (root + 1 + d) (omega arith) ∙ rw (lt-leb (root + 1 + d) root (omega arith)) in
+      rw (add-suc (root + 1) d, changes, row_changes, off) (high_rows p d t (omega arith))
 
-  all-rows :
+  all_rows :
       (p : Bool) (t : List ℕ)
       → changes p marks (rows_of e words) (length (rows_of e words)) t
       ≡ changed words (number_of p) (bit p) after at (root + 1) t
-  all-rows p t =
-      let n : length (rows_of e words) ≡ root + 1 + (e - (root + 1)) = length-upto e (row_at words) ∙ omega arith in
+  all_rows p t =
+      let n : length (rows_of e words) ≡ root + 1 + (e - (root + 1)) = length_upto e (row_at words) ∙ omega arith in
       ap (λ (m : ℕ). changes p marks (rows_of e words) m t) n
-      ∙ high-rows p (e - (root + 1)) t (omega arith)
+      ∙ high_rows p (e - (root + 1)) t (omega arith)
       ∙ low_rows p (root + 1) t (omega arith)
 
   -- The law of a step in place: the marked clears, then the marked sets, are what `apply` gives.
@@ -168,6 +168,6 @@ module _
   unfolding number_of bit
   applied =
       sym
-      (all-rows true (changes false marks (rows_of e words) (length (rows_of e words)) s)
-      ∙ ap (changed words 1 1 after at (root + 1)) (all-rows false s))
-      ∙ changes-apply s formulas (rows_of e words) root v at down marks (rw (length-upto e (row_at words)) in_table) agrees
+      (all_rows true (changes false marks (rows_of e words) (length (rows_of e words)) s)
+      ∙ ap (changed words 1 1 after at (root + 1)) (all_rows false s))
+      ∙ changes_apply s formulas (rows_of e words) root v at down marks (rw (length_upto e (row_at words)) in_table) agrees

@@ -80,18 +80,18 @@ under_kind_of e = rw e
 
 -- by the number of row k's kind: what is asked of it, and what handing on leaves
 module _ {words : List ℕ} {v at k : ℕ} {s : List ℕ} (m : Markable words v at k s) where
-  pub both-refs : (row_at words k).kind ≡ 3 → ((row_at words k).a < k) × ((row_at words k).b < k)
+  pub both_refs : (row_at words k).kind ≡ 3 → ((row_at words k).a < k) × ((row_at words k).b < k)
   unfolding effect_kind
-  both-refs e = rw e at (m.rule k (omega arith))
+  both_refs e = rw e at (m.rule k (omega arith))
 
-  pub under-refs : (row_at words k).kind ≡ 4 → ((row_at words k).a < at) × ((row_at words k).b < k)
+  pub under_refs : (row_at words k).kind ≡ 4 → ((row_at words k).a < at) × ((row_at words k).b < k)
   unfolding effect_kind
-  under-refs e = rw e at (m.rule k (omega arith))
+  under_refs e = rw e at (m.rule k (omega arith))
 
-  pub handed-both :
+  pub handed_both :
       (row_at words k).kind ≡ 3
       → HandedOn words at k s (set (set s (at + (row_at words k).a) 1) (at + (row_at words k).b) 1)
-  handed-both e =
+  handed_both e =
       record {
         same = second.same ∙ first.same;
         values = λ i l. second.values i l ∙ first.values i l;
@@ -109,7 +109,7 @@ module _ {words : List ℕ} {v at k : ℕ} {s : List ℕ} (m : Markable words v 
       kind = both_kind_of e
 
       refs : ((row_at words k).a < k) × ((row_at words k).b < k)
-      refs = both-refs e
+      refs = both_refs e
 
       first : Added at (row_at words k).a s (set s (at + (row_at words k).a) 1)
       first = add at (row_at words k).a s (omega (arith, m.marks, refs))
@@ -125,11 +125,11 @@ module _ {words : List ℕ} {v at k : ℕ} {s : List ℕ} (m : Markable words v 
       reaches j (to_right q) = second.here
       reaches j (to_inner q h) = absurd (omega (arith, under_number (row_at words k).kind q))
 
-  pub handed-under :
+  pub handed_under :
       (row_at words k).kind ≡ 4
       → (get_or s (row_at words k).a 0 ≡ 0 → ⊥)
       → HandedOn words at k s (set s (at + (row_at words k).b) 1)
-  handed-under e holding =
+  handed_under e holding =
       record {
         same = one.same;
         values = one.values;
@@ -144,7 +144,7 @@ module _ {words : List ℕ} {v at k : ℕ} {s : List ℕ} (m : Markable words v 
       kind = under_kind_of e
 
       refs : ((row_at words k).a < at) × ((row_at words k).b < k)
-      refs = under-refs e
+      refs = under_refs e
 
       one : Added at (row_at words k).b s (set s (at + (row_at words k).b) 1)
       one = add at (row_at words k).b s (omega (arith, m.marks, refs))
@@ -167,16 +167,16 @@ module _ {words : List ℕ} {v at k : ℕ} {s : List ℕ} (m : Markable words v 
         behind = λ j l. refl;
       }
 
-  pub handed-shut : (row_at words k).kind ≡ 4 → get_or s (row_at words k).a 0 ≡ 0 → HandedOn words at k s s
-  handed-shut e z = idle none
+  pub handed_shut : (row_at words k).kind ≡ 4 → get_or s (row_at words k).a 0 ≡ 0 → HandedOn words at k s s
+  handed_shut e z = idle none
     where
       none : (j : ℕ) → HandsTo words (on s) k j → ⊥
       none j (to_left q) = omega (arith, both_number (row_at words k).kind q)
       none j (to_right q) = omega (arith, both_number (row_at words k).kind q)
       none j (to_inner q h) = false≢true (sym (zero_off s (row_at words k).a z) ∙ h)
 
-  pub handed-none : ((row_at words k).kind ≡ 3 → ⊥) → ((row_at words k).kind ≡ 4 → ⊥) → HandedOn words at k s s
-  handed-none d e = idle none
+  pub handed_none : ((row_at words k).kind ≡ 3 → ⊥) → ((row_at words k).kind ≡ 4 → ⊥) → HandedOn words at k s s
+  handed_none d e = idle none
     where
       none : (j : ℕ) → HandsTo words (on s) k j → ⊥
       none j (to_left q) = d (both_number (row_at words k).kind q)

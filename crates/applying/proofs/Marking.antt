@@ -15,8 +15,8 @@ use Rattle.applying.specs.Inner.Marks.{on, marked, HandsTo, to_left, to_right, t
 use Rattle.applying.proofs.Handing.{on_same, not_zero_on, zero_off}
 
 module _ (at root : ℕ) (s ys : List ℕ) (room : at + root < length s) where
-  mid-length : length (mid_of at (at + root - at) s) ≡ root
-  mid-length =
+  mid_length : length (mid_of at (at + root - at) s) ≡ root
+  mid_length =
       length-take-le (at + root - at) (drop at s) (omega (arith, length-drop at s)) ∙ omega arith
 
   pub begun :
@@ -54,14 +54,14 @@ module _ (at root : ℕ) (s ys : List ℕ) (room : at + root < length s) where
       long = same_len_mid at (at + root - at) s ys (ap length e ∙ length-replicate (length (mid_of at (at + root - at) s)) 0)
 
       many : length ys ≡ root
-      many = ap length e ∙ length-replicate (length (mid_of at (at + root - at) s)) 0 ∙ mid-length
+      many = ap length e ∙ length-replicate (length (mid_of at (at + root - at) s)) 0 ∙ mid_length
 
       inside : (k : ℕ) → k < root → get_or whole (at + k) 0 ≡ 0
       inside k l =
           ap (λ (n : ℕ). get_or whole (n + k) 0) (sym front)
           ∙ get_or-append-add (take at s) rest k 0
           ∙ get_or-append ys (drop (at + root - at) (drop at s)) 0 k (omega (arith, many))
-          ∙ rw e (get_or-replicate (length (mid_of at (at + root - at) s)) k 0 0 (omega (arith, mid-length)))
+          ∙ rw e (get_or-replicate (length (mid_of at (at + root - at) s)) k 0 0 (omega (arith, mid_length)))
 
       bit_at : (k : ℕ) → k ≤ root → Dec (k < root) → get_or (set whole (at + root) 1) (at + k) 0 ≤ 1
       bit_at k l (yes b) = rw (get_or-set_other whole (at + root) (at + k) 1 0 (omega arith), inside k b) (omega arith)
@@ -83,34 +83,34 @@ module _ (at root : ℕ) (s ys : List ℕ) (room : at + root < length s) where
 
 -- the rows that a row hands on to are lower, and with other truth values that agree below the bound they are the same
 module _ (words : List ℕ) (v at k : ℕ) (rule : EffectRule v at k (effect_kind (row_at words k).kind) (row_at words k).a (row_at words k).b) where
-  rule-as : (kind : EffectKind) → effect_kind (row_at words k).kind ≡ kind → EffectRule v at k kind (row_at words k).a (row_at words k).b
-  rule-as kind e = subst (λ (x : EffectKind). EffectRule v at k x (row_at words k).a (row_at words k).b) e rule
+  rule_as : (kind : EffectKind) → effect_kind (row_at words k).kind ≡ kind → EffectRule v at k kind (row_at words k).a (row_at words k).b
+  rule_as kind e = subst (λ (x : EffectKind). EffectRule v at k x (row_at words k).a (row_at words k).b) e rule
 
   pub inner_below : effect_kind (row_at words k).kind ≡ under_kind → (row_at words k).a < at
-  inner_below e = (rule-as under_kind e).0
+  inner_below e = (rule_as under_kind e).0
 
-  hands-below : (h : ℕ → Bool) (j : ℕ) → HandsTo words h k j → j < k
-  hands-below h j (to_left e) = (rule-as both_kind e).0
-  hands-below h j (to_right e) = (rule-as both_kind e).1
-  hands-below h j (to_inner e t) = (rule-as under_kind e).1
+  hands_below : (h : ℕ → Bool) (j : ℕ) → HandsTo words h k j → j < k
+  hands_below h j (to_left e) = (rule_as both_kind e).0
+  hands_below h j (to_right e) = (rule_as both_kind e).1
+  hands_below h j (to_inner e t) = (rule_as under_kind e).1
 
-  hands-same : (h g : ℕ → Bool) → ((i : ℕ) → i < at → h i ≡ g i) → (j : ℕ) → HandsTo words h k j → HandsTo words g k j
-  hands-same h g same j (to_left e) = to_left e
-  hands-same h g same j (to_right e) = to_right e
-  hands-same h g same j (to_inner e t) = to_inner e (sym (same (row_at words k).a (inner_below e)) ∙ t)
+  hands_same : (h g : ℕ → Bool) → ((i : ℕ) → i < at → h i ≡ g i) → (j : ℕ) → HandsTo words h k j → HandsTo words g k j
+  hands_same h g same j (to_left e) = to_left e
+  hands_same h g same j (to_right e) = to_right e
+  hands_same h g same j (to_inner e t) = to_inner e (sym (same (row_at words k).a (inner_below e)) ∙ t)
 
 -- what is reached is no higher than the root
 module _ (words : List ℕ) (v at root : ℕ) (s : List ℕ) (m : Markable words v at root s) where
-  pub reached-below : (h : ℕ → Bool) (k : ℕ) → Reached words h root k → k ≤ root
-  reached-below h k at_root = omega arith
-  reached-below h k (handed i j r t) =
-      let l : i ≤ root = reached-below h i r in
-      omega (arith, hands-below words v at i (m.rule i l) h k t)
+  pub reached_below : (h : ℕ → Bool) (k : ℕ) → Reached words h root k → k ≤ root
+  reached_below h k at_root = omega arith
+  reached_below h k (handed i j r t) =
+      let l : i ≤ root = reached_below h i r in
+      omega (arith, hands_below words v at i (m.rule i l) h k t)
 
-  reached-same : (h g : ℕ → Bool) → ((i : ℕ) → i < at → h i ≡ g i) → (k : ℕ) → Reached words h root k → Reached words g root k
-  reached-same h g same k at_root = at_root
-  reached-same h g same k (handed i j r t) =
-      handed i j (reached-same h g same i r) (hands-same words v at i (m.rule i (reached-below h i r)) h g same k t)
+  reached_same : (h g : ℕ → Bool) → ((i : ℕ) → i < at → h i ≡ g i) → (k : ℕ) → Reached words h root k → Reached words g root k
+  reached_same h g same k at_root = at_root
+  reached_same h g same k (handed i j r t) =
+      handed i j (reached_same h g same i r) (hands_same words v at i (m.rule i (reached_below h i r)) h g same k t)
 
 -- the loop: the rows from `left` on have handed on
 pub record Going (words : List ℕ) (at root : ℕ) (before : List ℕ) (left : ℕ) (after : List ℕ) : Type 0 where
@@ -151,8 +151,8 @@ module _
     {words : List ℕ} {v at root : ℕ} {before : List ℕ} {left : ℕ} {s : List ℕ}
     (m : Markable words v at root before) (some_left : 0 < left) (inside : left ≤ root + 1)
     (g : Going words at root before left s) where
-  pub markable-here : Markable words v at (left - 1) s
-  markable-here =
+  pub markable_here : Markable words v at (left - 1) s
+  markable_here =
       record {
         rows = omega (arith, m.rows);
         marks = omega (arith, m.marks, g.same);
@@ -202,10 +202,10 @@ module _
       here = g.sound (left - 1) (omega arith) (not_zero_on s (at + (left - 1)) d)
 
       from-now : (j : ℕ) → HandsTo words (on s) (left - 1) j → HandsTo words (on before) (left - 1) j
-      from-now = hands-same words v at (left - 1) rule (on s) (on before) (λ i l. on_same before s i (g.values i l))
+      from-now = hands_same words v at (left - 1) rule (on s) (on before) (λ i l. on_same before s i (g.values i l))
 
       to-now : (j : ℕ) → HandsTo words (on before) (left - 1) j → HandsTo words (on s) (left - 1) j
-      to-now = hands-same words v at (left - 1) rule (on before) (on s) (λ i l. sym (on_same before s i (g.values i l)))
+      to-now = hands_same words v at (left - 1) rule (on before) (on s) (λ i l. sym (on_same before s i (g.values i l)))
 
       by_row : (k j : ℕ) → left - 1 ≤ k → k ≤ root → marked t at k ≡ true → HandsTo words (on before) k j → Dec (k < left) → marked t at j ≡ true
       by_row k j l h q r (yes b) =
@@ -213,7 +213,7 @@ module _
           w.hands j (to-now j (rw e at r))
       by_row k j l h q r (no b) =
           ⊎_elim (λ old. w.more j (g.passed k j (omega arith) h old r))
-          (λ x. absurd (omega (arith, hands-below words v at (left - 1) rule (on s) k x)))
+          (λ x. absurd (omega (arith, hands_below words v at (left - 1) rule (on s) k x)))
           (w.new k q)
 
 -- what the loop comes to, from the first mark on
@@ -230,10 +230,10 @@ finished {words} {v} {at} {root} {before} {first} {after} m b g =
       acting =
           λ k l. (
             λ q.
-                reached-same words v at root before m (on first) (on before) (λ i h. on_same before first i (b.values i h)) k
+                reached_same words v at root before m (on first) (on before) (λ i h. on_same before first i (b.values i h)) k
                 (g.sound k l q),
             λ r.
-                all k (reached-same words v at root before m (on before) (on first) (λ i h. sym (on_same before first i (b.values i h))) k r),
+                all k (reached_same words v at root before m (on before) (on first) (λ i h. sym (on_same before first i (b.values i h))) k r),
           );
       bits = g.bits;
       behind =
@@ -250,4 +250,4 @@ finished {words} {v} {at} {root} {before} {first} {after} m b g =
 
     all : (k : ℕ) → Reached words (on first) root k → marked after at k ≡ true
     all k at_root = g.root_marked
-    all k (handed i j r t) = g.passed i k (omega arith) (reached-below words v at root before m (on first) i r) (all i r) t
+    all k (handed i j r t) = g.passed i k (omega arith) (reached_below words v at root before m (on first) i r) (all i r) t

@@ -22,13 +22,13 @@ unfolding acts on
 acts_not_marked words kind scratch at k e = rw (eq-eqb (get_or scratch (at + k) 0) 0 e)
 
 module _ (words : List ℕ) (kind : ℕ) (scratch : List ℕ) (at k : ℕ) (m : get_or scratch (at + k) 0 ≡ 0 → ⊥) where
-  pub acts-other-kind : ((row_at words k).kind ≡ kind → ⊥) → acts words kind scratch at k ≡ false
+  pub acts_other_kind : ((row_at words k).kind ≡ kind → ⊥) → acts words kind scratch at k ≡ false
   unfolding acts on
-  acts-other-kind d = rw (ne_eqb (get_or scratch (at + k) 0) 0 m, ne_eqb (row_at words k).kind kind d)
+  acts_other_kind d = rw (ne_eqb (get_or scratch (at + k) 0) 0 m, ne_eqb (row_at words k).kind kind d)
 
-  pub acts-marked : (row_at words k).kind ≡ kind → acts words kind scratch at k ≡ true
+  pub acts_marked : (row_at words k).kind ≡ kind → acts words kind scratch at k ≡ true
   unfolding acts on
-  acts-marked e = rw (ne_eqb (get_or scratch (at + k) 0) 0 m, eq-eqb (row_at words k).kind kind e)
+  acts_marked e = rw (ne_eqb (get_or scratch (at + k) 0) 0 m, eq-eqb (row_at words k).kind kind e)
 
 -- what a pass has done before row n
 pub record Passing (words : List ℕ) (kind value : ℕ) (scratch : List ℕ) (at n : ℕ) (s t : List ℕ) : Type 0 where
@@ -84,10 +84,10 @@ changeable {words} {v} {at} {root} {kind} {w} {before} {after} m long low high s
 
 -- a pass keeps the state's length
 module _ (words : List ℕ) (kind value : ℕ) (scratch : List ℕ) (at : ℕ) (s : List ℕ) where
-  pub length-changed : (n : ℕ) → length (changed words kind value scratch at n s) ≡ length s
+  pub length_changed : (n : ℕ) → length (changed words kind value scratch at n s) ≡ length s
   unfolding changed
-  length-changed zero = refl
-  length-changed (suc n) = go (acts words kind scratch at n) (length-changed n)
+  length_changed zero = refl
+  length_changed (suc n) = go (acts words kind scratch at n) (length_changed n)
     where
       t : List ℕ
       t = changed words kind value scratch at n s
@@ -137,7 +137,7 @@ decided_ready {f} {e} {from} {at} {root} {value} {s} {half} {before} {marks} rea
     d = done.deciding.new refl
 
     long : length half ≡ length s
-    long = ap length done.state ∙ length-changed e (2 - value) value marks at s (root + 1)
+    long = ap length done.state ∙ length_changed e (2 - value) value marks at s (root + 1)
 
 -- the conditions are decided, then come the clears, then the sets by the same marks
 pub carried :

@@ -26,44 +26,44 @@ module _ (frame : Frame) where
   start_is e s q = rw q
 
   -- the set of a lower row ends where this one begins, or before
-  start-order : (d e : ℕ) → d < e → set_start frame d + set_words frame ≤ set_start frame e
+  start_order : (d e : ℕ) → d < e → set_start frame d + set_words frame ≤ set_start frame e
   unfolding set_start
-  start-order d e h = omega (arith, row_more (set_words frame) d e h)
+  start_order d e h = omega (arith, row_more (set_words frame) d e h)
 
-  start-next : (e : ℕ) → set_start frame (e + 1) ≡ set_start frame e + set_words frame
+  start_next : (e : ℕ) → set_start frame (e + 1) ≡ set_start frame e + set_words frame
   unfolding set_start
-  start-next e = omega arith
+  start_next e = omega arith
 
-  start-end : set_start frame frame.effects ≡ sets_end frame
+  start_end : set_start frame frame.effects ≡ sets_end frame
   unfolding set_start sets_end
-  start-end = refl
+  start_end = refl
 
   start_first : (e : ℕ) → 4 * frame.effects ≤ set_start frame e
   unfolding set_start
   start_first e = omega arith
 
-  place-start : (v e : ℕ) → set_place frame v e ≡ set_start frame e + v / 8
+  place_start : (v e : ℕ) → set_place frame v e ≡ set_start frame e + v / 8
   unfolding set_start set_place
-  place-start v e = omega arith
+  place_start v e = omega arith
 
   -- the word of an atom, and whether its bit stands
-  of-lacks :
+  of_lacks :
       (notes : List ℕ) (clear : Bool) (v e x : ℕ)
       → get_or notes (set_start frame e + v / 8) 0 ≡ x
       → lacks frame notes clear v e ≡ true
       → x / 2 ^ atom_bit clear v % 2 ≡ 0
   unfolding lacks
-  of-lacks notes clear v e x q h =
-      rw (← q, ← place-start v e) (eqb-true (get_or notes (set_place frame v e) 0 / 2 ^ atom_bit clear v % 2) 0 h)
+  of_lacks notes clear v e x q h =
+      rw (← q, ← place_start v e) (eqb-true (get_or notes (set_place frame v e) 0 / 2 ^ atom_bit clear v % 2) 0 h)
 
-  lacks-of :
+  lacks_of :
       (notes : List ℕ) (clear : Bool) (v e x : ℕ)
       → get_or notes (set_start frame e + v / 8) 0 ≡ x
       → x / 2 ^ atom_bit clear v % 2 ≡ 0
       → lacks frame notes clear v e ≡ true
   unfolding lacks
-  lacks-of notes clear v e x q h =
-      rw (place-start v e, q) (eq-eqb (x / 2 ^ atom_bit clear v % 2) 0 h)
+  lacks_of notes clear v e x q h =
+      rw (place_start v e, q) (eq-eqb (x / 2 ^ atom_bit clear v % 2) 0 h)
 
 -- the code's word of one bit is the definition's
 pub put_by :
@@ -93,13 +93,13 @@ module _ {frame : Frame} {effects before : List ℕ} {i : ℕ} (f : FindsSet fra
   b_is : (row_at effects i).b ≡ w.b
   b_is = ap (λ r. r.b) (sym q)
 
-  pub both-lower : w.kind ≡ 3 → (w.a < i) × (w.b < i)
-  both-lower k =
+  pub both_lower : w.kind ≡ 3 → (w.a < i) × (w.b < i)
+  both_lower k =
       let x = f.finds.both i f.effect (kind_is ∙ k) in
       (omega (arith, x, a_is), omega (arith, x, b_is))
 
-  pub under-lower : w.kind ≡ 4 → w.b < i
-  under-lower k = omega (arith, f.finds.under i f.effect (kind_is ∙ k), b_is)
+  pub under_lower : w.kind ≡ 4 → w.b < i
+  under_lower k = omega (arith, f.finds.under i f.effect (kind_is ∙ k), b_is)
 
   pub row_within : (e : ℕ) → e ≤ i → Within frame e
   row_within e h = record { variables = f.finds.variables; limit = f.finds.limit; effect = omega (arith, f.effect) }
@@ -122,25 +122,25 @@ module _ {frame : Frame} {effects before : List ℕ} {i : ℕ} (f : FindsSet fra
     pub row_room : {a : ℕ} (e : ℕ) → e < i → a ≡ set_start frame e → Room n a to before
     row_room {a} e h p =
         record {
-          apart = omega (arith, start-order frame e i h, m, t, p);
-          room = omega (arith, start-order frame i frame.effects f.effect, start-end frame, m, t, f.finds.room);
+          apart = omega (arith, start_order frame e i h, m, t, p);
+          room = omega (arith, start_order frame i frame.effects f.effect, start_end frame, m, t, f.finds.room);
         }
 
     -- only row i's set was written
-    written-around :
+    written_around :
         {word : ℕ → ℕ} {after : List ℕ}
         → Written n to word before after
         → SetOf frame effects after i
         → FoundSet frame effects i before after
-    written-around x s =
+    written_around x s =
         record {
           set = s;
           ahead = λ j h. x.ahead j (omega (arith, t));
-          behind = λ j h. x.behind j (omega (arith, m, t, start-next frame i));
+          behind = λ j h. x.behind j (omega (arith, m, t, start_next frame i));
         }
 
     -- what a lower row's set lacks now, if it did before
-    lower-lacks :
+    lower_lacks :
         {word : ℕ → ℕ} {after : List ℕ} (clear : Bool) (v e a : ℕ)
         → v < frame.variables
         → e < i
@@ -148,20 +148,20 @@ module _ {frame : Frame} {effects before : List ℕ} {i : ℕ} (f : FindsSet fra
         → Written n to word before after
         → get_or before (a + v / 8) 0 / 2 ^ atom_bit clear v % 2 ≡ 0
         → lacks frame after clear v e ≡ true
-    lower-lacks {after = after} clear v e a h l p x z =
-        lacks-of frame after clear v e (get_or before (a + v / 8) 0) (rw (← p) (x.ahead (a + v / 8) (omega (arith, start-order frame e i l, word_within frame v h, t, p)))) z
+    lower_lacks {after = after} clear v e a h l p x z =
+        lacks_of frame after clear v e (get_or before (a + v / 8) 0) (rw (← p) (x.ahead (a + v / 8) (omega (arith, start_order frame e i l, word_within frame v h, t, p)))) z
 
     -- what row i's set lacks
-    row-lacks :
+    row_lacks :
         {word : ℕ → ℕ} {after : List ℕ} (clear : Bool) (v : ℕ)
         → v < frame.variables
         → Written n to word before after
         → lacks frame after clear v i ≡ true
         → word (v / 8) / 2 ^ atom_bit clear v % 2 ≡ 0
-    row-lacks {word} {after} clear v h x z =
-        of-lacks frame after clear v i (word (v / 8)) (rw (← t) (x.here (v / 8) (omega (arith, word_within frame v h, m)))) z
+    row_lacks {word} {after} clear v h x z =
+        of_lacks frame after clear v i (word (v / 8)) (rw (← t) (x.here (v / 8) (omega (arith, word_within frame v h, m)))) z
 
-    pub found-both :
+    pub found_both :
         {after : List ℕ} {a b : ℕ}
         → w.kind ≡ 3
         → a ≡ set_start frame w.a
@@ -169,37 +169,37 @@ module _ {frame : Frame} {effects before : List ℕ} {i : ℕ} (f : FindsSet fra
         → Written n to (united before a b) before after
         → FoundSet frame effects i before after
     unfolding united
-    found-both {after} {a} {b} k p r x =
-        written-around x
+    found_both {after} {a} {b} k p r x =
+        written_around x
         (record {
           both = λ clear v h _ z.
-              let low = both-lower k in
-              let y = or_lacks (get_or before (a + v / 8) 0) (get_or before (b + v / 8) 0) (atom_bit clear v) (row-lacks clear v h x z) in (
-                rw a_is (lower-lacks clear v w.a a h low.0 p x y.0),
-                rw b_is (lower-lacks clear v w.b b h low.1 r x y.1),
+              let low = both_lower k in
+              let y = or_lacks (get_or before (a + v / 8) 0) (get_or before (b + v / 8) 0) (atom_bit clear v) (row_lacks clear v h x z) in (
+                rw a_is (lower_lacks clear v w.a a h low.0 p x y.0),
+                rw b_is (lower_lacks clear v w.b b h low.1 r x y.1),
               );
           under = λ clear v h z _. absurd (omega (arith, kind_is));
           atom = λ clear z _. omega (arith, kind_is, atom_kind clear);
         })
 
-    pub found-under :
+    pub found_under :
         {after : List ℕ} {b : ℕ}
         → w.kind ≡ 4
         → b ≡ set_start frame w.b
         → Written n to (copied before b) before after
         → FoundSet frame effects i before after
     unfolding copied
-    found-under {after} {b} k r x =
-        written-around x
+    found_under {after} {b} k r x =
+        written_around x
         (record {
           both = λ clear v h z _. absurd (omega (arith, kind_is));
           under = λ clear v h _ z.
-              rw b_is (lower-lacks clear v w.b b h (under-lower k) r x (row-lacks clear v h x z));
+              rw b_is (lower_lacks clear v w.b b h (under_lower k) r x (row_lacks clear v h x z));
           atom = λ clear z _. omega (arith, kind_is, atom_kind clear);
         })
 
-  pub found-empty : w.kind ≡ 0 → FoundSet frame effects i before before
-  found-empty k =
+  pub found_empty : w.kind ≡ 0 → FoundSet frame effects i before before
+  found_empty k =
       record {
         set =
             record {
@@ -211,14 +211,14 @@ module _ {frame : Frame} {effects before : List ℕ} {i : ℕ} (f : FindsSet fra
         behind = λ j h. refl;
       }
 
-  pub found-atom :
+  pub found_atom :
       {after : List ℕ}
       → (w.kind ≡ 3 → ⊥)
       → (w.kind ≡ 4 → ⊥)
       → (w.kind ≡ 0 → ⊥)
       → after ≡ set before (set_place frame w.a i) (2 ^ atom_bit (eqb w.kind 2) w.a)
       → FoundSet frame effects i before after
-  found-atom {after} three four none e =
+  found_atom {after} three four none e =
       record {
         set =
             record {
@@ -226,8 +226,8 @@ module _ {frame : Frame} {effects before : List ℕ} {i : ℕ} (f : FindsSet fra
               under = λ clear v h z _. absurd (four (sym kind_is ∙ z));
               atom = λ clear z l. stands clear (sym kind_is ∙ z) (rw a_is at l);
             };
-        ahead = λ j h. other j (λ z. omega (arith, place-start frame w.a i));
-        behind = λ j h. other j (λ z. omega (arith, place-start frame w.a i, start-next frame i, word_within frame w.a within.variable));
+        ahead = λ j h. other j (λ z. omega (arith, place_start frame w.a i));
+        behind = λ j h. other j (λ z. omega (arith, place_start frame w.a i, start_next frame i, word_within frame w.a within.variable));
       }
     where
       within : InSet frame w.a i
@@ -239,8 +239,8 @@ module _ {frame : Frame} {effects before : List ℕ} {i : ℕ} (f : FindsSet fra
       stands : (clear : Bool) → w.kind ≡ cond clear 2 1 → lacks frame after clear w.a i ≡ true → ⊥
       stands clear k l =
           one_stands (atom_bit clear w.a)
-          (of-lacks frame after clear w.a i (2 ^ atom_bit clear w.a)
-          (rw (e, ← place-start frame w.a i, clear_is clear w.kind k)
+          (of_lacks frame after clear w.a i (2 ^ atom_bit clear w.a)
+          (rw (e, ← place_start frame w.a i, clear_is clear w.kind k)
           (get_or-set_same before (set_place frame w.a i) (2 ^ atom_bit clear w.a) 0 (omega (arith, place_within within, f.finds.room))))
           l)
 
@@ -286,7 +286,7 @@ same_lacks :
     → lacks frame after clear v e ≡ lacks frame notes clear v e
 unfolding lacks
 same_lacks {frame} {i = i} clear v e h l o =
-    rw (o.ahead (set_place frame v e) (omega (arith, place-start frame v e, word_within frame v h, start-order frame e i l)))
+    rw (o.ahead (set_place frame v e) (omega (arith, place_start frame v e, word_within frame v h, start_order frame e i l)))
 
 pub finding_more :
     {frame : Frame} {effects first notes after : List ℕ} {i : ℕ}
@@ -299,7 +299,7 @@ finding_more {frame} {effects} {first} {notes} {after} {i} a h x o =
     record {
       bound = omega arith;
       ahead = λ j l. o.ahead j (omega (arith, start_first frame i)) ∙ x.ahead j l;
-      behind = λ j l. o.behind j (omega (arith, start-next frame i, start-order frame i frame.effects h, start-end frame)) ∙ x.behind j l;
+      behind = λ j l. o.behind j (omega (arith, start_next frame i, start_order frame i frame.effects h, start_end frame)) ∙ x.behind j l;
       found = λ d l. go d l (dec_lt d i);
     }
   where

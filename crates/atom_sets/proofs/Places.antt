@@ -113,13 +113,13 @@ two_bits w a b =
 -- What the word from v on says of the atoms.
 module _ (frame : Frame) (notes : List ℕ) (v e : ℕ) where
   -- an atom of v's word, d bits above v's lowest
-  lacks-above :
+  lacks_above :
       (clear : Bool) (u d : ℕ)
       → u / 8 ≡ v / 8
       → atom_bit clear u ≡ 2 * (v % 8) + d
       → lacks frame notes clear u e ≡ eqb (set_from frame notes v e / 2 ^ d % 2) 0
   unfolding lacks set_from set_place
-  lacks-above clear u d q b =
+  lacks_above clear u d q b =
       let w = get_or notes (4 * frame.effects + (set_words frame * e + v / 8)) 0 in
       rw (q, b, ← shr-shr w (2 * (v % 8)) d)
 
@@ -133,19 +133,19 @@ module _ (frame : Frame) (notes : List ℕ) (v e : ℕ) where
   unfolding atom_bit
   none_from z clear u h q =
       let d = 2 * (u % 8 - v % 8) + cond clear 1 0 in
-      lacks-above clear u d q (omega arith) ∙ rw (z, zero-div (2 ^ d)) refl
+      lacks_above clear u d q (omega arith) ∙ rw (z, zero-div (2 ^ d)) refl
 
   -- the lower two bits are v's
-  at-lowest : (clear : Bool) → lacks frame notes clear v e ≡ eqb (set_from frame notes v e / 2 ^ cond clear 1 0 % 2) 0
+  at_lowest : (clear : Bool) → lacks frame notes clear v e ≡ eqb (set_from frame notes v e / 2 ^ cond clear 1 0 % 2) 0
   unfolding atom_bit
-  at-lowest clear = lacks-above clear v (cond clear 1 0) refl refl
+  at_lowest clear = lacks_above clear v (cond clear 1 0) refl refl
 
-  pub none-lowest : set_from frame notes v e % 4 ≡ 0 → (clear : Bool) → lacks frame notes clear v e ≡ true
-  none-lowest z false = at-lowest false ∙ eq-eqb (set_from frame notes v e / 1 % 2) 0 (omega arith)
-  none-lowest z true = at-lowest true ∙ eq-eqb (set_from frame notes v e / 2 % 2) 0 (omega arith)
+  pub none_lowest : set_from frame notes v e % 4 ≡ 0 → (clear : Bool) → lacks frame notes clear v e ≡ true
+  none_lowest z false = at_lowest false ∙ eq-eqb (set_from frame notes v e / 1 % 2) 0 (omega arith)
+  none_lowest z true = at_lowest true ∙ eq-eqb (set_from frame notes v e / 2 % 2) 0 (omega arith)
 
-  pub some-lowest : (set_from frame notes v e % 4 ≡ 0 → ⊥) → ((clear : Bool) → lacks frame notes clear v e ≡ true) → ⊥
-  some-lowest n all =
-      let a = eqb-true (set_from frame notes v e / 1 % 2) 0 (sym (at-lowest false) ∙ all false) in
-      let b = eqb-true (set_from frame notes v e / 2 % 2) 0 (sym (at-lowest true) ∙ all true) in
+  pub some_lowest : (set_from frame notes v e % 4 ≡ 0 → ⊥) → ((clear : Bool) → lacks frame notes clear v e ≡ true) → ⊥
+  some_lowest n all =
+      let a = eqb-true (set_from frame notes v e / 1 % 2) 0 (sym (at_lowest false) ∙ all false) in
+      let b = eqb-true (set_from frame notes v e / 2 % 2) 0 (sym (at_lowest true) ∙ all true) in
       n (two_bits (set_from frame notes v e) (omega (arith, a)) b)

@@ -114,7 +114,7 @@ at_first a notes =
 
 -- Four words of a union, and of a copy.
 module _ {a i : ℕ} {before : List ℕ} (s : Room 4 a i before) where
-  pub united-four :
+  pub united_four :
       (b : ℕ)
       → Written 4 i (united before a b) before
       (set
@@ -125,18 +125,18 @@ module _ {a i : ℕ} {before : List ℕ} (s : Room 4 a i before) where
       (i + 3)
       (bit_or (get_or before (a + 3) 0) (get_or before (b + 3) 0)))
   unfolding united
-  united-four b = written_four _ _ _ _ s.room (ap₂ bit_or (at_first a before) (at_first b before)) refl refl refl
+  united_four b = written_four _ _ _ _ s.room (ap₂ bit_or (at_first a before) (at_first b before)) refl refl refl
 
-  pub copied-four :
+  pub copied_four :
       Written 4 i (copied before a) before
       (set (set (set (set before i (get_or before a 0)) (i + 1) (get_or before (a + 1) 0)) (i + 2) (get_or before (a + 2) 0)) (i + 3) (get_or before (a + 3) 0))
   unfolding copied
-  copied-four = written_four _ _ _ _ s.room (at_first a before) refl refl refl
+  copied_four = written_four _ _ _ _ s.room (at_first a before) refl refl refl
 
 -- The next four words of n, from word k on.
 module _ {n a i : ℕ} {before notes : List ℕ} (k : ℕ) (s : Room n a i before) (h : k + 4 ≤ n) where
-  pub room-four : length notes ≡ length before → Room 4 (a + k) (i + k) notes
-  room-four long = record { apart = omega (arith, s.apart); room = omega (arith, s.room) }
+  pub room_four : length notes ≡ length before → Room 4 (a + k) (i + k) notes
+  room_four long = record { apart = omega (arith, s.apart); room = omega (arith, s.room) }
 
   -- those that are read are as they were
   as_before : {word : ℕ → ℕ} (j : ℕ) → j < 4 → Written k i word before notes → get_or notes (a + k + j) 0 ≡ get_or before (a + (k + j)) 0

@@ -22,7 +22,7 @@ use Rattle.variable_changes.proofs.Standing.{stands_next, makes_image, leaves_fu
 use Rattle.change_records.specs.Inner.Recorded.{Opens, Recorded}
 use Rattle.operators.specs.declared.Tally.{Tally}
 use Rattle.operators.specs.Inner.Operator.{operator_built, operators_built, operator_here, BuildsOperator, OperatorWalked}
-use Rattle.operators.proofs.InOrder.{more-grows}
+use Rattle.operators.proofs.InOrder.{more_grows}
 use Rattle.building.specs.declared.Progress.{Progress}
 use Rattle.building.specs.Inner.Taken.{size_at, stopped, Fresh, Started, Begun, Blank, Stood, precondition_here, changes_here, many, AllKept, Taken, Takes, Took, TakesGoal, TookGoal, whole_built, FromStart}
 use Rattle.building.proofs.Kept.{many_more, none_kept, one_kept}
@@ -97,9 +97,9 @@ beginning frame table {after} b two f =
 
 -- Between the parts.
 module _ (frame : Frame) (formulas effects operators : List ℕ) where
-  none-taken : (n : ℕ) → n ≡ 0 → (operators_built frame formulas effects operators n start).st ≡ start
+  none_taken : (n : ℕ) → n ≡ 0 → (operators_built frame formulas effects operators n start).st ≡ start
   unfolding operators_built each give
-  none-taken n e = rw e refl
+  none_taken n e = rw e refl
 
   pub taken_none :
       {before table originals scratch records : List ℕ} {p : Progress}
@@ -111,7 +111,7 @@ module _ (frame : Frame) (formulas effects operators : List ℕ) where
         done = λ q.
             let s = g.done q in
             record {
-              state = none-taken p.operators g.none ∙ s.state originals;
+              state = none_taken p.operators g.none ∙ s.state originals;
               stands =
                   record {
                     source = b.source;
@@ -131,13 +131,13 @@ module _ (frame : Frame) (formulas effects operators : List ℕ) where
                   };
             };
         kept = λ _. none_kept frame formulas effects operators records p.operators p.records g.none g.no_records;
-        over = λ q w _. g.over q (rw (none-taken p.operators g.none) at w);
+        over = λ q w _. g.over q (rw (none_taken p.operators g.none) at w);
       }
 
   module _ {notes : List ℕ} {s : Store} {scratch records : List ℕ} {p : Progress} (t : Takes frame formulas effects notes operators s scratch records p) where
     -- without room it stays so
-    pub took-full : {r : Progress} → p.full ≡ true → r ≡ stopped (p.operators + 1) → Took frame formulas effects operators s scratch records p r
-    took-full q e =
+    pub took_full : {r : Progress} → p.full ≡ true → r ≡ stopped (p.operators + 1) → Took frame formulas effects operators s scratch records p r
+    took_full q e =
         rw e
         (record {
           next = refl;
@@ -147,13 +147,13 @@ module _ (frame : Frame) (formulas effects operators : List ℕ) where
                 done = λ g. absurd (true≢false g);
                 kept = λ g. absurd (true≢false g);
                 over = λ _ w few.
-                    t.taken.over q (within_before (more-grows frame formulas effects operators start p.operators) w)
+                    t.taken.over q (within_before (more_grows frame formulas effects operators start p.operators) w)
                     (omega (arith, many_more frame formulas effects operators p.operators, few));
               };
         })
 
-    module _ (q : p.full ≡ false) {f e : ℕ} (its-formula : f ≡ (operator_at operators p.operators).precondition)
-        (its-effect : e ≡ (operator_at operators p.operators).effect) where
+    module _ (q : p.full ≡ false) {f e : ℕ} (its_formula : f ≡ (operator_at operators p.operators).precondition)
+        (its_effect : e ≡ (operator_at operators p.operators).effect) where
       stood : Stood (operators_built frame formulas effects operators p.operators start).st frame formulas effects (size_at p) s scratch
       stood = t.taken.done q
 
@@ -161,8 +161,8 @@ module _ (frame : Frame) (formulas effects operators : List ℕ) where
       asks_operator =
           record {
             stands =
-                record { stands = stood.stands; noted = t.leaves.noted q; effect = omega (arith, its-effect, t.effect) };
-            formula = omega (arith, its-formula, t.precondition);
+                record { stands = stood.stands; noted = t.leaves.noted q; effect = omega (arith, its_effect, t.effect) };
+            formula = omega (arith, its_formula, t.precondition);
           }
 
       -- what operator p .operators gives in a state is what f and e give in the state that is held
@@ -171,7 +171,7 @@ module _ (frame : Frame) (formulas effects operators : List ℕ) where
           → let source = operator_at operators p.operators in
           step source.precondition source.effect (operators_built frame formulas effects operators p.operators start).st
           ≡ step f e (held (size_at p) s)
-      here step = rw (stood.state, its-formula, its-effect)
+      here step = rw (stood.state, its_formula, its_effect)
 
       one_more :
           (operators_built frame formulas effects operators (p.operators + 1) start).st
@@ -270,36 +270,36 @@ module _ (frame : Frame) (formulas effects operators : List ℕ) where
     before : p.full ≡ false → (operators_built frame formulas effects operators count start).st ≡ held (size_at p) s
     before q = ap (λ (n : ℕ). (operators_built frame formulas effects operators n start).st) (sym all) ∙ (t.done q).state
 
-    pub goal-asks : goal < frame.formulas → TakesGoal frame formulas goal s scratch p
-    goal-asks h =
+    pub goal_asks : goal < frame.formulas → TakesGoal frame formulas goal s scratch p
+    goal_asks h =
         record {
           asks = λ q.
               let k = (t.done q).stands in
               record { source = k.source; ready = k.ready; memo = k.memo; formula = h };
         }
 
-    operators-full :
+    operators_full :
         p.full ≡ true
         → Within frame (whole_built frame formulas effects operators count goal start).st
         → many frame formulas effects operators count ≤ 2048
         → ⊥
     unfolding whole_built bind
-    operators-full q w few =
+    operators_full q w few =
         t.over q
         (rw all
         (within_before ((steady_image_at frame formulas plain goal).grow (operators_built frame formulas effects operators count start).st) w))
         (rw all few)
 
-    all-kept : p.full ≡ false → AllKept frame formulas effects operators records count (many frame formulas effects operators count)
-    all-kept q = rw ((t.kept q).count, all) at (t.kept q)
+    all_kept : p.full ≡ false → AllKept frame formulas effects operators records count (many frame formulas effects operators count)
+    all_kept q = rw ((t.kept q).count, all) at (t.kept q)
 
     module _ {after : Store} {s2 : List ℕ} {z : Step} (long : length s2 ≡ length scratch) where
-      goal-built :
+      goal_built :
           p.full ≡ false
           → Images (image_at frame formulas plain goal) frame formulas (size_at p) s after scratch s2 z
           → FromStart frame formulas effects operators count goal after s2 records z
       unfolding whole_built bind
-      goal-built q y =
+      goal_built q y =
           let same = ap (image_at frame formulas plain goal) (before q) in
           record {
             done = λ g.
@@ -313,7 +313,7 @@ module _ (frame : Frame) (formulas effects operators : List ℕ) where
                             stands_next (t.done q).stands
                             (makes_image (steady_image_at frame formulas plain goal) (t.done q).stands.effect_memo y).reaches g long;
                       };
-                  kept = all-kept q;
+                  kept = all_kept q;
                 };
             over = λ g w _. y.builds.over g (rw (ap (λ (x : Got ℕ). x.st) same) at w);
           }
@@ -322,9 +322,9 @@ module _ (frame : Frame) (formulas effects operators : List ℕ) where
       goal-taken y = go p.full refl
         where
           go : (b : Bool) → p.full ≡ b → FromStart frame formulas effects operators count goal after s2 records z
-          go false q = goal-built q (y.done q)
+          go false q = goal_built q (y.done q)
           go true q =
               record {
                 done = λ g. absurd (true≢false (sym (ap (λ (x : Step). x.full) (y.over q)) ∙ g));
-                over = λ _. operators-full q;
+                over = λ _. operators_full q;
               }

@@ -13,7 +13,7 @@ use Rattle.normal_form.proofs.ShapeEach.{Upwards, start, next, changes_upwards}
 use Rattle.normal_form.proofs.ShapeRules.{All, none, also, all_append}
 use Rattle.formula_builder.specs.Inner.Index.{three}
 use Rattle.formula_builder.specs.declared.Frame.{Frame}
-use Rattle.formula_builder.proofs.Stored.{three-before, three-at}
+use Rattle.formula_builder.proofs.Stored.{three_before, three_at}
 use Rattle.images.specs.Inner.Images.{becoming}
 use Rattle.change_records.specs.Inner.Recorded.{acting, Recorded}
 use Rattle.change_records.proofs.Acting.{acting_all}
@@ -28,38 +28,38 @@ upwards_below n h (next {m = m} c e up) =
 
 module _ (frame : Frame) (formulas effects operators : List ℕ) where
   -- all changes are of source variables
-  pub acting-below : (o : ℕ) → All (λ c. c.variable < frame.variables) (acting (changes_here frame formulas effects operators o))
-  acting-below o = acting_all (λ c. c.variable < frame.variables) all
+  pub acting_below : (o : ℕ) → All (λ c. c.variable < frame.variables) (acting (changes_here frame formulas effects operators o))
+  acting_below o = acting_all (λ c. c.variable < frame.variables) all
     where
       all : All (λ c. c.variable < frame.variables) (changes_here frame formulas effects operators o)
       all =
           unfold changes_here operator_here operator_built all_changes bind in
           upwards_below frame.variables (omega arith) (changes_upwards (becoming frame) frame.variables _ _)
 
-  pub many-suc :
+  pub many_suc :
       (n : ℕ)
       → many frame formulas effects operators (suc n)
       ≡ many frame formulas effects operators n + length (acting (changes_here frame formulas effects operators n))
   unfolding many
-  many-suc n = refl
+  many_suc n = refl
 
   pub many_more :
       (n : ℕ)
       → many frame formulas effects operators (n + 1)
       ≡ many frame formulas effects operators n + length (acting (changes_here frame formulas effects operators n))
-  many_more n = rw (add-one n) (many-suc n)
+  many_more n = rw (add-one n) (many_suc n)
 
-  pub many-fewer : (o n : ℕ) → o ≤ n → many frame formulas effects operators o ≤ many frame formulas effects operators n
-  many-fewer o zero h =
+  pub many_fewer : (o n : ℕ) → o ≤ n → many frame formulas effects operators o ≤ many frame formulas effects operators n
+  many_fewer o zero h =
       let e : o ≡ 0 = omega arith in
       rw e (omega arith)
-  many-fewer o (suc n) h = go (dec_le o n) (many-fewer o n)
+  many_fewer o (suc n) h = go (dec_le o n) (many_fewer o n)
     where
       go :
           Dec (o ≤ n)
           → (o ≤ n → many frame formulas effects operators o ≤ many frame formulas effects operators n)
           → many frame formulas effects operators o ≤ many frame formulas effects operators (suc n)
-      go (yes c) f = omega (arith, f c, many-suc n)
+      go (yes c) f = omega (arith, f c, many_suc n)
       go (no c) f =
           let e : o ≡ suc n = omega arith in
           rw e (omega arith)
@@ -77,7 +77,7 @@ module _ (frame : Frame) (formulas effects operators : List ℕ) where
     own = record { kind = row; a = to; b = 0 }
 
     first : (j : ℕ) → j < n → row_at (three l n own) j ≡ row_at records j
-    first j h = three-before l n own j h ∙ x.below j (omega arith)
+    first j h = three_before l n own j h ∙ x.below j (omega arith)
 
     rest : (j : ℕ) → 256 ≤ j → row_at (three l n own) j ≡ row_at l j
     rest j h = three_after l n own j (omega arith)
@@ -89,17 +89,17 @@ module _ (frame : Frame) (formulas effects operators : List ℕ) where
           end = ap (λ (r : Row). r.a) (first o h) ∙ y.end;
           changes =
               same_changes (many frame formulas effects operators o) _ k records (three l n own)
-              (omega (arith, all.count, many-fewer (suc o) n (omega arith), many-suc o))
+              (omega (arith, all.count, many_fewer (suc o) n (omega arith), many_suc o))
               (λ j p q. rest j p ∙ x.below j q)
               ∙ y.changes;
         }
 
     ends : to ≡ many frame formulas effects operators (suc n)
-    ends = omega (arith, x.count, all.count, many-suc n)
+    ends = omega (arith, x.count, all.count, many_suc n)
 
     last : Kept frame formulas effects operators (three l n own) n
     last =
-        let stored = three-at l n own (omega arith) in
+        let stored = three_at l n own (omega arith) in
         record {
           precondition = ap (λ (r : Row). r.kind) stored ∙ sym is;
           end = ap (λ (r : Row). r.a) stored ∙ ends;

@@ -50,50 +50,50 @@ made_here frame formulas effects operators o =
 -- The task t is what the tables hold.
 module _ (t : Task) (frame : Frame) (formulas effects operators : List ℕ) (count goal : ℕ) (imaged : frame.copied ≡ 0)
     (variables : length t.initial ≡ frame.variables)
-    (its-formulas : t.formulas ≡ source_rows frame formulas) (its-effects : t.effects ≡ effect_rows frame effects)
-    (its-count : length t.operators ≡ count) (its-operator : (o : ℕ) → o < count → operator_of t o ≡ operator_at operators o)
+    (its_formulas : t.formulas ≡ source_rows frame formulas) (its_effects : t.effects ≡ effect_rows frame effects)
+    (its-count : length t.operators ≡ count) (its_operator : (o : ℕ) → o < count → operator_of t o ≡ operator_at operators o)
     (its-goal : t.goal ≡ goal) where
   same_operator :
       (o : ℕ) → o < count → (s : St) → (built_operator t o s).st ≡ (operator_here frame formulas effects operators o s).st
   unfolding built_operator operator_here operator_built all_changes image_at tree effect_tree effect_of_operator bind give
-  same_operator o h s = rw (becoming_image frame imaged, its-operator o h, variables, its-formulas, its-effects)
+  same_operator o h s = rw (becoming_image frame imaged, its_operator o h, variables, its_formulas, its_effects)
 
-  same-operators :
+  same_operators :
       (s : St)
       → (each (length t.operators) (built_operator t) s).st ≡ (operators_built frame formulas effects operators count s).st
   unfolding operators_built
-  same-operators s =
+  same_operators s =
       rw its-count (each_same count (built_operator t) (operator_here frame formulas effects operators) same_operator s)
 
-  same-goal : image (length t.initial) plain (formula_of t.formulas t.goal) ≡ image_at frame formulas plain goal
+  same_goal : image (length t.initial) plain (formula_of t.formulas t.goal) ≡ image_at frame formulas plain goal
   unfolding image_at tree
-  same-goal = rw (becoming_image frame imaged, variables, its-formulas, its-goal)
+  same_goal = rw (becoming_image frame imaged, variables, its_formulas, its-goal)
 
   last : (s : St) → image_at frame formulas plain goal (each (length t.operators) (built_operator t) s).st ≡ whole_built frame formulas effects operators count goal s
   unfolding whole_built bind
-  last s = ap (image_at frame formulas plain goal) (same-operators s)
+  last s = ap (image_at frame formulas plain goal) (same_operators s)
 
   -- the state, and the goal's row
   pub same_state : (s : St) → (parts t s).st ≡ (whole_built frame formulas effects operators count goal s).st
   unfolding parts bind give
   same_state s =
-      ap (λ (m : Build ℕ). (m (each (length t.operators) (built_operator t) s).st).st) same-goal
+      ap (λ (m : Build ℕ). (m (each (length t.operators) (built_operator t) s).st).st) same_goal
       ∙ ap (λ (g : Got ℕ). g.st) (last s)
 
-  pub same-value : (s : St) → (parts t s).value.goal ≡ (whole_built frame formulas effects operators count goal s).value
+  pub same_value : (s : St) → (parts t s).value.goal ≡ (whole_built frame formulas effects operators count goal s).value
   unfolding parts bind give
-  same-value s =
-      ap (λ (m : Build ℕ). (m (each (length t.operators) (built_operator t) s).st).value) same-goal
+  same_value s =
+      ap (λ (m : Build ℕ). (m (each (length t.operators) (built_operator t) s).st).value) same_goal
       ∙ ap (λ (g : Got ℕ). g.value) (last s)
 
   -- the operators
-  state-here :
+  state_here :
       (o : ℕ) → o < count → (each o (built_operator t) start).st ≡ (operators_built frame formulas effects operators o start).st
   unfolding operators_built
-  state-here o h =
+  state_here o h =
       each_same o (built_operator t) (operator_here frame formulas effects operators) (λ k b. same_operator k (omega arith)) start
 
-  same-made :
+  same_made :
       (o : ℕ)
       → o < count
       → (s : St)
@@ -104,21 +104,21 @@ module _ (t : Task) (frame : Frame) (formulas effects operators : List ℕ) (cou
         source = operator_at operators o;
       }
   unfolding built_operator operator_here operator_built all_changes image_at tree effect_tree effect_of_operator bind give
-  same-made o h s = rw (becoming_image frame imaged, its-operator o h, variables, its-formulas, its-effects)
+  same_made o h s = rw (becoming_image frame imaged, its_operator o h, variables, its_formulas, its_effects)
 
-  its-made :
+  its_made :
       (o : ℕ)
       → o < count
       → (built_operator t o (each o (built_operator t) start).st).value ≡ made_here frame formulas effects operators o
   unfolding precondition_here changes_here
-  its-made o h =
-      ap (λ (s : St). (built_operator t o s).value) (state-here o h)
-      ∙ same-made o h (operators_built frame formulas effects operators o start).st
+  its_made o h =
+      ap (λ (s : St). (built_operator t o s).value) (state_here o h)
+      ∙ same_made o h (operators_built frame formulas effects operators o start).st
 
-  pub same-operators-made : (parts t start).value.operators ≡ upto count (made_here frame formulas effects operators)
+  pub same_operators_made : (parts t start).value.operators ≡ upto count (made_here frame formulas effects operators)
   unfolding parts bind give
-  same-operators-made =
+  same_operators_made =
       each_upto (length t.operators) (built_operator t) start
       ∙ ap (λ (n : ℕ). upto n (λ o. (built_operator t o (each o (built_operator t) start).st).value)) its-count
       ∙ upto_same count (λ o. (built_operator t o (each o (built_operator t) start).st).value) (made_here frame formulas effects operators)
-      its-made
+      its_made

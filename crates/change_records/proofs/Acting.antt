@@ -12,7 +12,7 @@ use Rattle.task.specs.Semantics.{Atom, sets, clears}
 use Rattle.task.proofs.Bounded.{and_left, and_right}
 use Rattle.normal_form.specs.Operators.{Changes, Built}
 use Rattle.normal_form.specs.Assembly.{Rule, rule, rules_of, rules, Assembled, assemble_operator}
-use Rattle.normal_form.proofs.Assembling.{rules-none}
+use Rattle.normal_form.proofs.Assembling.{rules_none}
 use Rattle.normal_form.proofs.ShapeCounts.{rows_of_rules, written_length}
 use Rattle.normal_form.proofs.ShapeRules.{All, none, also}
 use Rattle.change_records.specs.Inner.Recorded.{idle, acting}
@@ -27,10 +27,10 @@ rows_more zero = omega arith
 rows_more (suc k) = omega arith
 
 module _ (n : ℕ) (twins : List ℕ) where
-  pub rules-acting : (cs : List Changes) → rules n twins (acting cs) ≡ rules n twins cs
+  pub rules_acting : (cs : List Changes) → rules n twins (acting cs) ≡ rules n twins cs
   unfolding rules acting idle
-  rules-acting [] = refl
-  rules-acting (c ∷ cs) = go (idle c) refl (rules-acting cs)
+  rules_acting [] = refl
+  rules_acting (c ∷ cs) = go (idle c) refl (rules_acting cs)
     where
       go :
           (b : Bool)
@@ -39,15 +39,15 @@ module _ (n : ℕ) (twins : List ℕ) where
           → rules n twins (cond b (acting cs) (c ∷ acting cs)) ≡ rules_of n twins c ++ rules n twins cs
       go true e same =
           let none =
-          rules-none n twins c (eqb-true c.adds 0 (and_left (eqb c.adds 0) (eqb c.deletes 0) e))
+          rules_none n twins c (eqb-true c.adds 0 (and_left (eqb c.adds 0) (eqb c.deletes 0) e))
           (eqb-true c.deletes 0 (and_right (eqb c.adds 0) (eqb c.deletes 0) e)) in
           same ∙ sym (ap (λ (l : List Rule). l ++ rules n twins cs) none)
       go false e same = ap (λ (l : List Rule). rules_of n twins c ++ l) same
 
   -- such a change has a rule
-  some-rule : (c : Changes) → idle c ≡ false → 1 ≤ length (rules_of n twins c)
+  some_rule : (c : Changes) → idle c ≡ false → 1 ≤ length (rules_of n twins c)
   unfolding rules_of idle
-  some-rule c e = simp length-append (omega (arith, one (dec_lt 0 c.adds) (dec_lt 0 c.deletes)))
+  some_rule c e = simp length-append (omega (arith, one (dec_lt 0 c.adds) (dec_lt 0 c.deletes)))
     where
       one :
           Dec (0 < c.adds)
@@ -60,10 +60,10 @@ module _ (n : ℕ) (twins : List ℕ) where
           let b = eq-eqb c.deletes 0 (omega arith) in
           absurd (true≢false (rw (a, b) at e))
 
-  acting-few : (cs : List Changes) → length (acting cs) ≤ length (rules n twins cs)
+  acting_few : (cs : List Changes) → length (acting cs) ≤ length (rules n twins cs)
   unfolding rules acting
-  acting-few [] = omega arith
-  acting-few (c ∷ cs) = go (idle c) refl (acting-few cs) (length-append (rules_of n twins c) (rules n twins cs))
+  acting_few [] = omega arith
+  acting_few (c ∷ cs) = go (idle c) refl (acting_few cs) (length-append (rules_of n twins c) (rules n twins cs))
     where
       go :
           (b : Bool)
@@ -72,23 +72,23 @@ module _ (n : ℕ) (twins : List ℕ) where
           → length (rules_of n twins c ++ rules n twins cs) ≡ length (rules_of n twins c) + length (rules n twins cs)
           → length (cond b (acting cs) (c ∷ acting cs)) ≤ length (rules_of n twins c ++ rules n twins cs)
       go true e h k = omega (arith, h, k)
-      go false e h k = omega (arith, h, k, some-rule c e)
+      go false e h k = omega (arith, h, k, some_rule c e)
 
   -- an operator, with the changes that bring rules alone
-  pub acting-operator :
+  pub acting_operator :
       (w : Assembled) (b : Built)
       → assemble_operator n twins w (record { precondition = b.precondition; changes = acting b.changes; source = b.source })
       ≡ assemble_operator n twins w b
   unfolding assemble_operator
-  acting-operator w b = rw (rules-acting b.changes)
+  acting_operator w b = rw (rules_acting b.changes)
 
-  pub operator-more :
+  pub operator_more :
       (w : Assembled) (b : Built)
       → length w.effects + 2 * length (acting b.changes) ≤ length (assemble_operator n twins w b).effects
   unfolding assemble_operator
-  operator-more w b =
+  operator_more w b =
       let rs = rules n twins b.changes in
-      omega (arith, written_length w.effects rs, rows_more (length rs), acting-few b.changes)
+      omega (arith, written_length w.effects rs, rows_more (length rs), acting_few b.changes)
 
 -- what all changes keep, those that bring rules keep
 pub acting_all : (P : Changes → Type 0) {cs : List Changes} → All P cs → All P (acting cs)

@@ -12,7 +12,7 @@ use Rattle.task.specs.Table.{Row, row_at}
 use Rattle.normal_form.specs.Operators.{Changes}
 use Rattle.task.specs.Inner.Stored.{three}
 use Rattle.formula_builder.specs.Inner.Index.{three as row_stored}
-use Rattle.formula_builder.proofs.Stored.{upto_same, three-other, three-before, three-at}
+use Rattle.formula_builder.proofs.Stored.{upto_same, three_other, three_before, three_at}
 use Rattle.change_records.specs.Inner.Recorded.{idle, acting, change_at, changes_from, Recorded}
 
 -- how the code tells
@@ -58,9 +58,9 @@ unfolding row_at
 three_after t n r k h =
     λ i.
     record {
-      kind = three-other t n r (3 * k) (omega arith) (omega arith) (omega arith) i;
-      a = three-other t n r (3 * k + 1) (omega arith) (omega arith) (omega arith) i;
-      b = three-other t n r (3 * k + 2) (omega arith) (omega arith) (omega arith) i;
+      kind = three_other t n r (3 * k) (omega arith) (omega arith) (omega arith) i;
+      a = three_other t n r (3 * k + 1) (omega arith) (omega arith) (omega arith) i;
+      b = three_other t n r (3 * k + 2) (omega arith) (omega arith) (omega arith) i;
     }
 
 -- a change that stands as it stood
@@ -95,13 +95,13 @@ one_stands from l c e =
     ap (λ (x : Changes). x ∷ []) (ap (change_at l) here ∙ change_is from l c e)
 
 module _ (from : ℕ) (l : List ℕ) where
-  pub recorded-none : Recorded [] from l l from
+  pub recorded_none : Recorded [] from l l from
   unfolding acting changes_from upto
-  recorded-none = record { count = omega arith; there = λ _. refl; below = λ j _. refl; behind = λ j _. refl }
+  recorded_none = record { count = omega arith; there = λ _. refl; below = λ j _. refl; behind = λ j _. refl }
 
   module _ (c : Changes) where
-    pub recorded-idle : idle c ≡ true → Recorded (c ∷ []) from l l from
-    recorded-idle e =
+    pub recorded_idle : idle c ≡ true → Recorded (c ∷ []) from l l from
+    recorded_idle e =
         let n = one_idle c e in
         record {
           count = omega (arith, ap length n);
@@ -110,8 +110,8 @@ module _ (from : ℕ) (l : List ℕ) where
           behind = λ j _. refl;
         }
 
-    pub recorded-past : idle c ≡ false → 2048 ≤ from → Recorded (c ∷ []) from l l (from + 1)
-    recorded-past e h =
+    pub recorded_past : idle c ≡ false → 2048 ≤ from → Recorded (c ∷ []) from l l (from + 1)
+    recorded_past e h =
         let n = one_acts c e in
         record {
           count = omega (arith, ap length n);
@@ -120,16 +120,16 @@ module _ (from : ℕ) (l : List ℕ) where
           behind = λ j _. refl;
         }
 
-    pub recorded-one :
+    pub recorded_one :
         idle c ≡ false
         → 3 * (256 + from) + 3 ≤ length l
         → Recorded (c ∷ []) from l (three l (256 + from) c.variable c.adds c.deletes) (from + 1)
-    recorded-one e room =
+    recorded_one e room =
         let n = one_acts c e in
         record {
           count = omega (arith, ap length n);
           there = λ _. rw n it-stands;
-          below = λ j h. three-before l (256 + from) row j h;
+          below = λ j h. three_before l (256 + from) row j h;
           behind = λ j h. three_after l (256 + from) row j (omega arith);
         }
       where
@@ -137,7 +137,7 @@ module _ (from : ℕ) (l : List ℕ) where
         row = record { kind = c.variable; a = c.adds; b = c.deletes }
 
         it-stands : changes_from (three l (256 + from) c.variable c.adds c.deletes) from (length (c ∷ [])) ≡ c ∷ []
-        it-stands = one_stands from (three l (256 + from) c.variable c.adds c.deletes) c (three-at l (256 + from) row room)
+        it-stands = one_stands from (three l (256 + from) c.variable c.adds c.deletes) c (three_at l (256 + from) row room)
 
 -- one more at most
 pub recorded_few : {c : Changes} {from to : ℕ} {l m : List ℕ} → Recorded (c ∷ []) from l m to → to ≤ from + 1

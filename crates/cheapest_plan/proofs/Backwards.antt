@@ -37,8 +37,8 @@ aside_on {k} {steps} {before} {plan} x some a =
     }
 
 module _ {n : ℕ} {words : List ℕ} {state steps : ℕ} (h : Writable n words state steps) where
-  pub back-begin : (plan : List ℕ) → Back h steps state plan
-  back-begin plan =
+  pub back_begin : (plan : List ℕ) → Back h steps state plan
+  back_begin plan =
       record {
         front = h.p;
         rest = [];

@@ -7,11 +7,11 @@ use mathlib.Core.List.{List}
 use lib.ListN.{length, get_or, set, length-set}
 use lib.Seq.{get_or-set_same, get_or-set_other}
 use Rattle.state_queue.specs.Inner.Queue.{key, queue_cost, Roomy, Queue, Nearly, Changed, Played}
-use Rattle.state_queue.proofs.Changes.{changed-nearly}
+use Rattle.state_queue.proofs.Changes.{changed_nearly}
 use Rattle.state_queue.proofs.Keys.{cost_else}
 use Rattle.cheapest_plan.specs.Inner.Visits.{Emptied, Begun}
 use Rattle.cheapest_plan.specs.Inner.Tables.{Elsewhere}
-use Rattle.cheapest_plan.proofs.Queueing.{stored, length-stored, cost-stored, steps-stored, step-stored, stored-elsewhere}
+use Rattle.cheapest_plan.proofs.Queueing.{stored, length_stored, cost_stored, steps_stored, step_stored, stored_elsewhere}
 
 -- the states below s
 pub record Emptying (n : ℕ) (before : List ℕ) (s : ℕ) (words : List ℕ) : Type 0 where
@@ -39,7 +39,7 @@ pub emptying_more :
     → Emptying n before (s + 1) (stored words n s 4294967295 0 0)
 emptying_more {n} {before} {s} {words} roomy below e =
     record {
-      long = length-stored words n s 4294967295 0 0 ∙ e.long;
+      long = length_stored words n s 4294967295 0 0 ∙ e.long;
       inside = omega arith;
       costs = λ x l. costs x l (ℕ_discrete x s);
       steps = λ x l. steps x l (ℕ_discrete x s);
@@ -50,18 +50,18 @@ emptying_more {n} {before} {s} {words} roomy below e =
     room = omega (arith, roomy, e.long)
 
     away : Elsewhere n s words (stored words n s 4294967295 0 0)
-    away = stored-elsewhere words n s 4294967295 0 0 below room
+    away = stored_elsewhere words n s 4294967295 0 0 below room
 
     costs : (x : ℕ) → x < s + 1 → Dec (x ≡ s) → get_or (stored words n s 4294967295 0 0) x 0 ≡ 4294967295
-    costs x l (yes q) = rw q (cost-stored words n s 4294967295 0 0 below room)
+    costs x l (yes q) = rw q (cost_stored words n s 4294967295 0 0 below room)
     costs x l (no q) = away.costs x (omega arith) q ∙ e.costs x (omega arith)
 
     steps : (x : ℕ) → x < s + 1 → Dec (x ≡ s) → get_or (stored words n s 4294967295 0 0) (n + x) 0 ≡ 0
-    steps x l (yes q) = rw q (steps-stored words n s 4294967295 0 0 below room)
+    steps x l (yes q) = rw q (steps_stored words n s 4294967295 0 0 below room)
     steps x l (no q) = away.steps x (omega arith) q ∙ e.steps x (omega arith)
 
     lasts : (x : ℕ) → x < s + 1 → Dec (x ≡ s) → get_or (stored words n s 4294967295 0 0) (2 * n + x) 0 ≡ 0
-    lasts x l (yes q) = rw q (step-stored words n s 4294967295 0 0 below room)
+    lasts x l (yes q) = rw q (step_stored words n s 4294967295 0 0 below room)
     lasts x l (no q) = away.lasts x (omega arith) q ∙ e.lasts x (omega arith)
 
 pub emptied : {n : ℕ} {before : List ℕ} {s : ℕ} {words : List ℕ} → n ≤ s → Emptying n before s words → Emptied n words
@@ -87,9 +87,9 @@ module _ {n start : ℕ} {empty words : List ℕ} (e : Emptied n empty) (p : Pla
   unfolding key
   first_key = rw (put, no_steps start below, sym (cost_else 1 (λ z. omega arith))) refl
 
-  pub begin-nearly : Nearly (set words start 1) n start
-  begin-nearly =
-      changed-nearly
+  pub begin_nearly : Nearly (set words start 1) n start
+  begin_nearly =
+      changed_nearly
       (record {
         costs = λ s l ne. other s ne;
         steps = λ s l ne. other (n + s) (λ z. omega arith);

@@ -24,7 +24,7 @@ use Rattle.cheapest_plan.specs.Inner.Tables.{Ground}
 use Rattle.cheapest_plan.specs.Inner.Visits.{TaskIn, Known, GoalReady, Searchable, SearchEnd, no_end, first_end, EndReady, EndFound, Writable, Writes}
 use Rattle.cheapest_plan.specs.Inner.Plans.{PlanReady, PlanEnd, no_plan_there, plan_there, EndsPlan, PlanTold, TellReady, TellsPlan, Plans}
 use Rattle.cheapest_plan.proofs.States.{code_below, state_of_code}
-use Rattle.cheapest_plan.proofs.Visiting.{QueuedAt, queued-at, IsQueued, waiting-at, least-key}
+use Rattle.cheapest_plan.proofs.Visiting.{QueuedAt, queued_at, IsQueued, waiting_at, least-key}
 use Rattle.cheapest_plan.proofs.Refusing.{few_states, search_ready}
 
 -- a search begins
@@ -38,16 +38,16 @@ module _ {h : Head} {initial f e o scratch words : List ℕ} (v : PlanReady h in
         cheap = v.cheap;
       }
 
-  pub search-roomy : Roomy n words
-  search-roomy =
+  pub search_roomy : Roomy n words
+  search_roomy =
       record {
         some = omega (arith, states, one-le-pow h.variables 2 (omega arith));
         limit = omega (arith, states, few_states v.few);
         room = omega (arith, states, v.words_room);
       }
 
-  pub search-goal : {state : List ℕ} → length state ≡ h.variables → GoalReady h f state scratch
-  search-goal size =
+  pub search_goal : {state : List ℕ} → length state ≡ h.variables → GoalReady h f state scratch
+  search_goal size =
       record {
         few = v.few;
         size = size;
@@ -59,14 +59,14 @@ module _ {h : Head} {initial f e o scratch words : List ℕ} (v : PlanReady h in
 
   -- the initial state and its code
   module _ {first : List ℕ} (is : first ≡ take h.variables initial) where
-    pub start-bits : Bits (length first) first
-    start-bits = record { size = refl; bits = rw (is ∙ sym v.starts) v.passes.initial_bits }
+    pub start_bits : Bits (length first) first
+    start_bits = record { size = refl; bits = rw (is ∙ sym v.starts) v.passes.initial_bits }
 
-    pub start-few : length first ≤ 10
-    start-few = omega (arith, ap length (is ∙ sym v.starts), v.tables.variables, v.few)
+    pub start_few : length first ≤ 10
+    start_few = omega (arith, ap length (is ∙ sym v.starts), v.tables.variables, v.few)
 
-    pub start-there : length first ≡ h.variables
-    start-there = ap length (is ∙ sym v.starts) ∙ v.tables.variables
+    pub start_there : length first ≡ h.variables
+    start_there = ap length (is ∙ sym v.starts) ∙ v.tables.variables
 
     unfoldable pub searchable : {start : ℕ} → start ≡ code first → Searchable h f e o n start
     searchable {start} e =
@@ -74,8 +74,8 @@ module _ {h : Head} {initial f e o scratch words : List ℕ} (v : PlanReady h in
           t = v.t;
           tables = v.tables;
           ground = ground;
-          there = rw (e, states, ← start-there) (code_below (length first) first start-bits);
-          initial = v.starts ∙ sym is ∙ sym (state_of_code (length first) first start-bits) ∙ rw (start-there, e) refl;
+          there = rw (e, states, ← start_there) (code_below (length first) first start_bits);
+          initial = v.starts ∙ sym is ∙ sym (state_of_code (length first) first start_bits) ∙ rw (start_there, e) refl;
         }
 
     pub searched : {start r : ℕ} {after : List ℕ} (is' : start ≡ code first) → SearchEnd (searchable is').t n after r → SearchEnd v.t n after r
@@ -104,11 +104,11 @@ module _
     {h : Head} {initial f e o scratch words : List ℕ} (v : PlanReady h initial f e o scratch words) {n : ℕ} (states : n ≡ 2 ^ h.variables)
     {after : List ℕ} (roomy : Roomy n after) {r : ℕ} (end : SearchEnd v.t n after r) (other : r ≡ n → ⊥)
   where
-    pub end-here : FirstEnd v.t n after r
-    end-here = some_end end other
+    pub end_here : FirstEnd v.t n after r
+    end_here = some_end end other
 
-    pub end-queued : IsQueued end-here.known.holds r
-    end-queued = waiting-at end-here.known.holds r end-here.below end-here.waiting
+    pub end_queued : IsQueued end_here.known.holds r
+    end_queued = waiting_at end_here.known.holds r end_here.below end_here.waiting
 
     unfoldable pub end_ready : EndReady h f n r after
     end_ready =
@@ -118,38 +118,38 @@ module _
           formulas = v.tables.formulas;
           goal = v.tables.goal;
           ground = ground v states;
-          status = end-here.known.status;
-          last = end-here.known.last;
-          holds = end-here.known.holds;
-          searching = end-here.known.searching;
-          there = end-here.below;
-          p = end-queued.p;
-          c = end-queued.c;
-          is = end-queued.is;
-          ends = end-here.goal;
+          status = end_here.known.status;
+          last = end_here.known.last;
+          holds = end_here.known.holds;
+          searching = end_here.known.searching;
+          there = end_here.below;
+          p = end_queued.p;
+          c = end_queued.c;
+          is = end_queued.is;
+          ends = end_here.goal;
           least =
-              least-key end-here.known.holds (ground v states).states end-here.known.queue roomy.some r end-here.first
-              end-queued.p end-queued.c end-queued.at;
+              least-key end_here.known.holds (ground v states).states end_here.known.queue roomy.some r end_here.first
+              end_queued.p end_queued.c end_queued.at;
         }
 
-    pub end-found : {best : ℕ} → best < n → EndFound end_ready.t n best after → PlanEnd v.t n after best
+    pub end_found : {best : ℕ} → best < n → EndFound end_ready.t n best after → PlanEnd v.t n after best
     unfolding end_ready
-    end-found below found = plan_there below found
+    end_found below found = plan_there below found
 
 -- what is told of a plan
 module _ {n end : ℕ} {words plan : List ℕ} (v : TellReady n end words plan) where
-  pub end-at : QueuedAt (length v.t.initial) n v.found.status words end v.found.p v.found.c
-  end-at = queued-at v.found.holds end v.there v.found.p v.found.c v.found.is
+  pub end_at : QueuedAt (length v.t.initial) n v.found.status words end v.found.p v.found.c
+  end_at = queued_at v.found.holds end v.there v.found.p v.found.c v.found.is
 
   -- it is longer than the buffer
-  pub tell-long :
+  pub tell_long :
       length plan < get_or words (n + end) 0
       → {r : CheapestOutcome}
       → r ≡ record { refusal = 23; steps = 0; cost = 0 }
       → PlanTold (plan_of v.found.p v.found.c) plan r plan
   unfolding plan_told plan_refused
-  tell-long h e =
-      let long : length plan < length v.found.p = omega (arith, end-at.steps) in
+  tell_long h e =
+      let long : length plan < length v.found.p = omega (arith, end_at.steps) in
       record {
         answer = e ∙ sym (rw (lt-leb (length v.found.p) (length plan) long) refl);
         plan = v.clear ∙ sym (rw (lt-leb (length v.found.p) (length plan) long) refl);
@@ -163,8 +163,8 @@ module _ {n end : ℕ} {words plan : List ℕ} (v : TellReady n end words plan) 
         holds = v.found.holds;
         there = v.there;
         p = v.found.p;
-        size = sym end-at.steps;
-        ends = end-at.ends;
+        size = sym end_at.steps;
+        ends = end_at.ends;
       }
 
   -- it is written
@@ -179,7 +179,7 @@ module _ {n end : ℕ} {words plan : List ℕ} (v : TellReady n end words plan) 
           (omega (
             arith,
             long,
-            end-at.steps,
+            end_at.steps,
             length-append v.found.p (replicate (length plan - length v.found.p) 0),
             length-replicate {A = ℕ} (length plan - length v.found.p) 0,
           ))
@@ -191,11 +191,11 @@ module _ {n end : ℕ} {words plan : List ℕ} (v : TellReady n end words plan) 
               → Dec (i < length v.found.p)
               → get_or after i 0 ≡ get_or (v.found.p ++ replicate (length plan - length v.found.p) 0) i 0
           go i l (yes m) =
-              writes.front writable i (omega (arith, end-at.steps))
+              writes.front writable i (omega (arith, end_at.steps))
               ∙ sym (get_or-append v.found.p (replicate (length plan - length v.found.p) 0) 0 i m)
           go i l (no m) =
               let k : i ≡ length v.found.p + (i - length v.found.p) = omega arith in
-              writes.behind i (omega (arith, end-at.steps))
+              writes.behind i (omega (arith, end_at.steps))
               ∙ ap (λ (x : List ℕ). get_or x i 0) v.clear
               ∙ get_or-replicate (length plan) i 0 0 (omega arith)
               ∙ sym (get_or-replicate (length plan - length v.found.p) (i - length v.found.p) 0 0 (omega arith))
@@ -208,10 +208,10 @@ module _ {n end : ℕ} {words plan : List ℕ} (v : TellReady n end words plan) 
           after
       unfolding plan_told plan_written
       tell-written =
-          let short : length v.found.p ≤ length plan = omega (arith, end-at.steps) in
-          let cost : get_or words end 0 - 1 ≡ v.found.c = omega (arith, end-at.word) in
+          let short : length v.found.p ≤ length plan = omega (arith, end_at.steps) in
+          let cost : get_or words end 0 - 1 ≡ v.found.c = omega (arith, end_at.word) in
           record {
-            answer = rw (le-leb (length v.found.p) (length plan) short, end-at.steps, cost) refl;
+            answer = rw (le-leb (length v.found.p) (length plan) short, end_at.steps, cost) refl;
             plan = written ∙ sym (rw (le-leb (length v.found.p) (length plan) short) refl);
           }
 
@@ -225,14 +225,14 @@ found_end (no_plan_there q none) other = absurd (other q)
 found_end (plan_there below found) other = record { below = below; found = found }
 
 module _ {t : Task} {n : ℕ} {words : List ℕ} {r : ℕ} (end : PlanEnd t n words r) {plan : List ℕ} (clear : plan ≡ cleared plan) where
-  none-there : PlanEnd t n words r → r ≡ n → cheapest t ≡ no_plan
-  none-there (no_plan_there q none) same = none
-  none-there (plan_there below found) same = absurd (omega arith)
+  none_there : PlanEnd t n words r → r ≡ n → cheapest t ≡ no_plan
+  none_there (no_plan_there q none) same = none
+  none_there (plan_there below found) same = absurd (omega arith)
 
   pub told_none : r ≡ n → {answer : CheapestOutcome} → answer ≡ record { refusal = 22; steps = 0; cost = 0 } → PlanTold (cheapest t) plan answer plan
   unfolding plan_told plan_refused
   told_none same e =
-      let none = none-there end same in
+      let none = none_there end same in
       record { answer = e ∙ sym (rw none refl); plan = clear ∙ sym (rw none refl) }
 
   module _ (other : r ≡ n → ⊥) where
@@ -242,12 +242,12 @@ module _ {t : Task} {n : ℕ} {words : List ℕ} {r : ℕ} (end : PlanEnd t n wo
     unfoldable pub tell_ready : TellReady n r words plan
     tell_ready = record { t = t; there = found_here.below; found = found_here.found; clear = clear }
 
-    pub told-found :
+    pub told_found :
         {answer : CheapestOutcome} {after : List ℕ}
         → PlanTold (plan_of tell_ready.found.p tell_ready.found.c) plan answer after
         → PlanTold (cheapest t) plan answer after
     unfolding tell_ready
-    told-found x = rw found_here.found.best x
+    told_found x = rw found_here.found.best x
 
 -- what is told does not hang on the scratches, nor on what stood in the buffer
 module _ (before plan scratch words : List ℕ) (size : length before ≡ length plan) where
@@ -279,11 +279,11 @@ module _ (before plan scratch words : List ℕ) (size : length before ≡ length
       go true = ap (λ (k : ℕ). padded k p) size
       go false = ap (λ (k : ℕ). replicate k 0) size
 
-  both-cleared :
+  both_cleared :
       (pick : Pick) → ((plan_told pick plan scratch words).scratch ≡ cleared scratch) × ((plan_told pick plan scratch words).words ≡ cleared words)
   unfolding plan_told plan_refused plan_written
-  both-cleared no_plan = (refl, refl)
-  both-cleared (plan_of p c) = go (leb (length p) (length plan))
+  both_cleared no_plan = (refl, refl)
+  both_cleared (plan_of p c) = go (leb (length p) (length plan))
     where
       go :
           (b : Bool)
@@ -294,7 +294,7 @@ module _ (before plan scratch words : List ℕ) (size : length before ≡ length
 
 -- the ways out of `cheapest`
 module _ (l : Lent) (plan scratch words : List ℕ) (number : ℕ) (asked : number ≡ search_refusal l scratch words) where
-  pub plan-refuses :
+  pub plan_refuses :
       (number ≡ 0 → ⊥)
       → (r : CheapestOutcome) (numbers rest tables : List ℕ)
       → r ≡ record { refusal = number; steps = 0; cost = 0 }
@@ -303,7 +303,7 @@ module _ (l : Lent) (plan scratch words : List ℕ) (number : ℕ) (asked : numb
       → tables ≡ cleared words
       → PlanGives (planned l plan scratch words) r numbers rest tables
   unfolding planned planned_by plan_refused
-  plan-refuses d r numbers rest tables e a b c = rw (← asked) (go number d e)
+  plan_refuses d r numbers rest tables e a b c = rw (← asked) (go number d e)
     where
       go :
           (n : ℕ)
@@ -313,7 +313,7 @@ module _ (l : Lent) (plan scratch words : List ℕ) (number : ℕ) (asked : numb
       go zero d e = absurd (d refl)
       go (suc n) d e = record { answer = e; plan = a; scratch = b; words = c }
 
-  pub plan-gives :
+  pub plan_gives :
       number ≡ 0
       → (r : CheapestOutcome) (before numbers rest tables : List ℕ)
       → length before ≡ length plan
@@ -322,13 +322,13 @@ module _ (l : Lent) (plan scratch words : List ℕ) (number : ℕ) (asked : numb
       → tables ≡ cleared words
       → PlanGives (planned l plan scratch words) r numbers rest tables
   unfolding planned planned_by
-  plan-gives e r before numbers rest tables size told b c =
+  plan_gives e r before numbers rest tables size told b c =
       rw (← asked, e)
       (record {
         answer = told.answer ∙ same_answer before plan scratch words size (cheapest (task_of l));
         plan = told.plan ∙ same_plan before plan scratch words size (cheapest (task_of l));
-        scratch = b ∙ sym (both-cleared before plan scratch words size (cheapest (task_of l))).0;
-        words = c ∙ sym (both-cleared before plan scratch words size (cheapest (task_of l))).1;
+        scratch = b ∙ sym (both_cleared before plan scratch words size (cheapest (task_of l))).0;
+        words = c ∙ sym (both_cleared before plan scratch words size (cheapest (task_of l))).1;
       })
 
 -- a front that is cut out from place 0

@@ -18,7 +18,7 @@ use Rattle.cheapest_plan.specs.Inner.States.{Bits}
 use Rattle.cheapest_plan.specs.Inner.Search.{NoLater, equal, before}
 use Rattle.cheapest_plan.proofs.Order.{no_later_transitive, no_later_not_before}
 use Rattle.cheapest_plan.proofs.Lists.{upto_has, upto_length, ordered_upto}
-use Rattle.cheapest_plan.proofs.Leads.{plan-reaches, reaches-plan, leads-below}
+use Rattle.cheapest_plan.proofs.Leads.{plan_reaches, reaches_plan, leads_below}
 use Rattle.cheapest_plan.proofs.Picks.{Picks, finds_none, finds, picks}
 use Rattle.cheapest_plan.proofs.Loops.{shorten}
 
@@ -36,13 +36,13 @@ record Looked (t : Task) (q : List ℕ) : Type 0 where
 module _ (t : Task) (passes : Checked t) where
   looked : (q : List ℕ) → Plan t q → Looked t q
   looked q plan =
-      let r = plan-reaches t q plan in
+      let r = plan_reaches t q plan in
       let bits : Bits (length t.initial) t.initial = record { size = refl; bits = passes.initial_bits } in
       let h = shorten bits r.leads in
-      let p = reaches-plan t h.numbers h.leads r.goal in
+      let p = reaches_plan t h.numbers h.leads r.goal in
       record {
         numbers = h.numbers;
-        among = upto_has (most_steps t) (leads-below h.leads) h.steps;
+        among = upto_has (most_steps t) (leads_below h.leads) h.steps;
         plan = p.0;
         no_later = rw p.1 h.no_later;
       }
@@ -71,15 +71,15 @@ module _ (t : Task) (passes : Checked t) where
 
   -- the answer where it is a plan
   module _ {p : List ℕ} {c : ℕ} (e : cheapest t ≡ plan_of p c) where
-    pub cheapest-is-plan : Plan t p × (c ≡ cost_of t p)
-    cheapest-is-plan = go (rw e at answers)
+    pub cheapest_is_plan : Plan t p × (c ≡ cost_of t p)
+    cheapest_is_plan = go (rw e at answers)
       where
         go : Answers (plan_of p c) → Plan t p × (c ≡ cost_of t p)
         go (one plan cost short least) = (plan, cost)
 
     -- it has at most 2^V - 1 steps
-    pub plan-is-short : length p ≤ most_steps t
-    plan-is-short = go (rw e at answers)
+    pub plan_is_short : length p ≤ most_steps t
+    plan_is_short = go (rw e at answers)
       where
         go : Answers (plan_of p c) → length p ≤ most_steps t
         go (one plan cost short least) = short
@@ -111,16 +111,16 @@ module _ (t : Task) (passes : Checked t) where
       pub none_before : cost_of t q ≡ c → FirstByNumbers q p → ⊥
       none_before same f = no_later_not_before (no_later q other) (earlier same f)
 
-    pub cheapest-is-least : Least t p
-    cheapest-is-least =
+    pub cheapest_is_least : Least t p
+    cheapest_is_least =
         record {
-          plan = cheapest-is-plan.0;
-          none_before = λ q other b. no_later_not_before (rw cheapest-is-plan.1 at (no_later q other)) b;
+          plan = cheapest_is_plan.0;
+          none_before = λ q other b. no_later_not_before (rw cheapest_is_plan.1 at (no_later q other)) b;
         }
 
   -- it is none exactly if no list of numbers is a plan
-  pub no-plan-exactly-if : cheapest t ≡ no_plan ↔ ((q : List ℕ) → Plan t q → ⊥)
-  no-plan-exactly-if = (λ e. go (rw e at answers), λ nothing. back nothing refl answers)
+  pub no_plan_exactly_if : cheapest t ≡ no_plan ↔ ((q : List ℕ) → Plan t q → ⊥)
+  no_plan_exactly_if = (λ e. go (rw e at answers), λ nothing. back nothing refl answers)
     where
       go : Answers no_plan → (q : List ℕ) → Plan t q → ⊥
       go (none nothing) = nothing
@@ -130,8 +130,8 @@ module _ (t : Task) (passes : Checked t) where
       back nothing e (one {p = p} plan cost short least) = absurd (nothing p plan)
 
   -- Whatever plan no plan comes before is the answer.
-  pub least-is-cheapest : {p : List ℕ} → Least t p → cheapest t ≡ plan_of p (cost_of t p)
-  least-is-cheapest {p} l = go refl answers
+  pub least_is_cheapest : {p : List ℕ} → Least t p → cheapest t ≡ plan_of p (cost_of t p)
+  least_is_cheapest {p} l = go refl answers
     where
       same : {r : List ℕ} {c : ℕ} → Plan t r → c ≡ cost_of t r → NoLater c r (cost_of t p) p → plan_of r c ≡ plan_of p (cost_of t p)
       same plan cost (equal e f) = rw (e, f)
@@ -142,28 +142,28 @@ module _ (t : Task) (passes : Checked t) where
       go e (one plan cost short least) = e ∙ same plan cost (least p l.plan)
 
   -- The same of where lists lead, as a search knows it: it found a list to the goal that is no later than each; or no list leads there.
-  pub found-is-cheapest :
+  pub found_is_cheapest :
       {p at : List ℕ} {c : ℕ}
       → Leads t t.initial p at c
       → goal_holds t at ≡ true
       → ((q to : List ℕ) (d : ℕ) → Leads t t.initial q to d → goal_holds t to ≡ true → NoLater c p d q)
       → cheapest t ≡ plan_of p c
-  found-is-cheapest {p} {at} {c} l g least =
-      let w = reaches-plan t p l g in
+  found_is_cheapest {p} {at} {c} l g least =
+      let w = reaches_plan t p l g in
       let is-least : Least t p =
       record {
         plan = w.0;
         none_before =
-            λ q plan b. let r = plan-reaches t q plan in
+            λ q plan b. let r = plan_reaches t q plan in
             no_later_not_before (rw (← w.1) at (least q r.at (cost_of t q) r.leads r.goal)) b;
       } in
-      rw w.1 at (least-is-cheapest is-least)
+      rw w.1 at (least_is_cheapest is-least)
 
-  pub none-is-cheapest :
+  pub none_is_cheapest :
       ((q to : List ℕ) (d : ℕ) → Leads t t.initial q to d → goal_holds t to ≡ true → ⊥) → cheapest t ≡ no_plan
-  none-is-cheapest nothing =
-      no-plan-exactly-if.1
-      (λ q plan. let r = plan-reaches t q plan in nothing q r.at (cost_of t q) r.leads r.goal)
+  none_is_cheapest nothing =
+      no_plan_exactly_if.1
+      (λ q plan. let r = plan_reaches t q plan in nothing q r.at (cost_of t q) r.leads r.goal)
 
 -- two tasks with the same plans, each of the same cost in both, have the same cheapest plan
 pub same_cheapest :
@@ -179,15 +179,15 @@ same_cheapest t u x y same = go (cheapest t) refl
   where
     go : (a : Pick) → cheapest t ≡ a → cheapest t ≡ cheapest u
     go no_plan e =
-        let nothing = (no-plan-exactly-if t x).0 e in
-        e ∙ sym ((no-plan-exactly-if u y).1 (λ q plan. nothing q ((same q).0 ∙ plan)))
+        let nothing = (no_plan_exactly_if t x).0 e in
+        e ∙ sym ((no_plan_exactly_if u y).1 (λ q plan. nothing q ((same q).0 ∙ plan)))
     go (plan_of p c) e =
-        let least = cheapest-is-least t x e in
+        let least = cheapest_is_least t x e in
         let other : Least u p =
         record {
           plan = sym (same p).0 ∙ least.plan;
           none_before = λ q plan b. least.none_before q ((same q).0 ∙ plan) (rw ((same q).1, (same p).1) b);
         } in
         e
-        ∙ ap (plan_of p) ((cheapest-is-plan t x e).1 ∙ (same p).1)
-        ∙ sym (least-is-cheapest u y other)
+        ∙ ap (plan_of p) ((cheapest_is_plan t x e).1 ∙ (same p).1)
+        ∙ sym (least_is_cheapest u y other)

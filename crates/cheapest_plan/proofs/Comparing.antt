@@ -99,18 +99,18 @@ module _ {n : ℕ} {words : List ℕ} {x₀ y₀ : ℕ} (h : Comparable n words 
   pub record Parted (x y : ℕ) : Type 0 where
     pub p : List ℕ
     pub q : List ℕ
-    pub p-ends : Ends h.v n h.status p x
-    pub q-ends : Ends h.v n h.status q y
+    pub p_ends : Ends h.v n h.status p x
+    pub q_ends : Ends h.v n h.status q y
     pub same : length p ≡ length q
     pub back : (r : Bool) → Verdict p q r → Verdict h.first h.second r
 
-  pub parted-begin : Parted x₀ y₀
-  parted-begin =
+  pub parted_begin : Parted x₀ y₀
+  parted_begin =
       record {
         p = h.first;
         q = h.second;
-        p-ends = h.first_ends;
-        q-ends = h.second_ends;
+        p_ends = h.first_ends;
+        q_ends = h.second_ends;
         same = h.alike;
         back = λ r w. w;
       }
@@ -119,20 +119,20 @@ module _ {n : ℕ} {words : List ℕ} {x₀ y₀ : ℕ} (h : Comparable n words 
   pub record Apart (x y : ℕ) : Type 0 where
     pub a : ℕ
     pub b : ℕ
-    pub a-state : a < n
-    pub b-state : b < n
+    pub a_state : a < n
+    pub b_state : b < n
     pub a_is : x / 256 ≡ a + 1
     pub b_is : y / 256 ≡ b + 1
     pub p : List ℕ
     pub q : List ℕ
-    pub a-says : TakenSays h.v n h.status words a p
-    pub b-says : TakenSays h.v n h.status words b q
+    pub a_says : TakenSays h.v n h.status words a p
+    pub b_says : TakenSays h.v n h.status words b q
     pub longer : steps_to words n x ≡ length p + 1
     pub same : length p ≡ length q
     pub back : (r : Bool) → Verdict p q r → Verdict h.first h.second r
 
   pub apart : {x y : ℕ} → Parted x y → (x / 256 ≡ y / 256 → ⊥) → Apart x y
-  apart {x} {y} w ne = go w.p-ends w.q-ends
+  apart {x} {y} w ne = go w.p_ends w.q_ends
     where
       go : Ends h.v n h.status w.p x → Ends h.v n h.status w.q y → Apart x y
       go (at_start e z) (at_start f k) = absurd (ne (rw (z, k) refl))
@@ -148,47 +148,47 @@ module _ {n : ℕ} {words : List ℕ} {x₀ y₀ : ℕ} (h : Comparable n words 
           record {
             a = a;
             b = b;
-            a-state = l;
-            b-state = l';
+            a_state = l;
+            b_state = l';
             a_is = omega arith;
             b_is = omega arith;
             p = p;
             q = q;
-            a-says = taken_says h.holds a p c l is;
-            b-says = taken_says h.holds b q d l' is';
-            longer = omega (arith, ends_steps h.holds w.p x w.p-ends, ap length e, length-append p (o ∷ []));
+            a_says = taken_says h.holds a p c l is;
+            b_says = taken_says h.holds b q d l' is';
+            longer = omega (arith, ends_steps h.holds w.p x w.p_ends, ap length e, length-append p (o ∷ []));
             same = size;
             back = λ r g. w.back r (rw (e, f) (behind p q o u size other r g));
           }
 
   -- one turn of the loop
   module _ {x y a b : ℕ} (w : Apart x y) (a_is : a ≡ x / 256 - 1) (b_is : b ≡ y / 256 - 1) where
-    pub a-below : a < n
-    a-below = omega (arith, w.a_is, w.a-state)
+    pub a_below : a < n
+    a_below = omega (arith, w.a_is, w.a_state)
 
-    pub b-below : b < n
-    b-below = omega (arith, w.b_is, w.b-state)
+    pub b_below : b < n
+    b_below = omega (arith, w.b_is, w.b_state)
 
-    a-ends : Ends h.v n h.status w.p (get_or words (2 * n + a) 0)
-    a-ends =
+    a_ends : Ends h.v n h.status w.p (get_or words (2 * n + a) 0)
+    a_ends =
         let same : a ≡ w.a = omega (arith, w.a_is) in
-        rw same w.a-says.ends
+        rw same w.a_says.ends
 
-    b-ends : Ends h.v n h.status w.q (get_or words (2 * n + b) 0)
-    b-ends =
+    b_ends : Ends h.v n h.status w.q (get_or words (2 * n + b) 0)
+    b_ends =
         let same : b ≡ w.b = omega (arith, w.b_is) in
-        rw same w.b-says.ends
+        rw same w.b_says.ends
 
-    pub parted-on : Parted (get_or words (2 * n + a) 0) (get_or words (2 * n + b) 0)
-    parted-on =
-        record { p = w.p; q = w.q; p-ends = a-ends; q-ends = b-ends; same = w.same; back = w.back }
+    pub parted_on : Parted (get_or words (2 * n + a) 0) (get_or words (2 * n + b) 0)
+    parted_on =
+        record { p = w.p; q = w.q; p_ends = a_ends; q_ends = b_ends; same = w.same; back = w.back }
 
-    pub parted-less : steps_to words n (get_or words (2 * n + a) 0) < steps_to words n x
-    parted-less = omega (arith, w.longer, ends_steps h.holds w.p (get_or words (2 * n + a) 0) a-ends)
+    pub parted_less : steps_to words n (get_or words (2 * n + a) 0) < steps_to words n x
+    parted_less = omega (arith, w.longer, ends_steps h.holds w.p (get_or words (2 * n + a) 0) a_ends)
 
   -- the fronts are the same
-  pub parted-end : {x y : ℕ} → Parted x y → x / 256 ≡ y / 256 → Verdict h.first h.second (ltb x y)
-  parted-end {x} {y} w e = w.back (ltb x y) (go w.p-ends w.q-ends (dec_lt x y))
+  pub parted_end : {x y : ℕ} → Parted x y → x / 256 ≡ y / 256 → Verdict h.first h.second (ltb x y)
+  parted_end {x} {y} w e = w.back (ltb x y) (go w.p_ends w.q_ends (dec_lt x y))
     where
       go : Ends h.v n h.status w.p x → Ends h.v n h.status w.q y → Dec (x < y) → Verdict w.p w.q (ltb x y)
       go (at_start f z) (at_start g k) d =
@@ -245,8 +245,8 @@ noted_own {v} {n} {status} {p} {c} k a room there own =
 
 module _ {n : ℕ} {words : List ℕ} {a b : ℕ} {notes : List ℕ} (h : Pairs n words a b notes) where
   -- it was noted before
-  pub noted-before : (get_or notes b 0 ≡ 0 → ⊥) → Verdict h.p h.q (eqb (get_or notes b 0) 2)
-  noted-before some = h.noted.told b h.q h.d h.b_there some h.b_is h.alike
+  pub noted_before : (get_or notes b 0 ≡ 0 → ⊥) → Verdict h.p h.q (eqb (get_or notes b 0) 2)
+  noted_before some = h.noted.told b h.q h.d h.b_there some h.b_is h.alike
 
   unfoldable pub pair_comparable : Comparable n words (get_or words (2 * n + a) 0) (get_or words (2 * n + b) 0)
   pair_comparable =
@@ -262,13 +262,13 @@ module _ {n : ℕ} {words : List ℕ} {a b : ℕ} {notes : List ℕ} (h : Pairs 
         alike = h.alike;
       }
 
-  pub pair-verdict : {r : Bool} → Compares n words (get_or words (2 * n + a) 0) (get_or words (2 * n + b) 0) r → Verdict h.p h.q r
+  pub pair_verdict : {r : Bool} → Compares n words (get_or words (2 * n + a) 0) (get_or words (2 * n + b) 0) r → Verdict h.p h.q r
   unfolding pair_comparable
-  pair-verdict c = c.told pair_comparable
+  pair_verdict c = c.told pair_comparable
 
   -- it is noted now
-  pub noted-now : (note : ℕ) → Verdict h.p h.q (eqb note 2) → Noted h.v n h.status h.p (set notes b note)
-  noted-now note found =
+  pub noted_now : (note : ℕ) → Verdict h.p h.q (eqb note 2) → Noted h.v n h.status h.p (set notes b note)
+  noted_now note found =
       record {
         room = rw (length-set notes b note) h.noted.room;
         told = λ x q d l some is size. go x q d l some is size (ℕ_discrete x b);

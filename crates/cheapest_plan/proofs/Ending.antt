@@ -21,14 +21,14 @@ use Rattle.cheapest_plan.specs.Inner.Tables.{Ends, Holds, Comparable, Verdict, c
 use Rattle.cheapest_plan.specs.Inner.Visits.{GoalTold, EndReady, Rivals, takes_over, gives_way, Replaces, EndFound}
 use Rattle.cheapest_plan.proofs.Order.{Compared, sooner, alike, later, by_numbers_total, no_later_transitive}
 use Rattle.cheapest_plan.proofs.States.{state_bits, code_below, state_of_code}
-use Rattle.cheapest_plan.proofs.Search.{has_one, key_less_before, key_cases, end-is-cheapest}
+use Rattle.cheapest_plan.proofs.Search.{has_one, key_less_before, key_cases, end_is_cheapest}
 use Rattle.cheapest_plan.proofs.Holding.{Stands, is_unreached, is_queued, is_taken, stands_at}
 use Rattle.cheapest_plan.proofs.Relaxing.{alone}
-use Rattle.cheapest_plan.proofs.Visiting.{QueuedAt, queued-at}
+use Rattle.cheapest_plan.proofs.Visiting.{QueuedAt, queued_at}
 
 module _ {h : Head} {f : List ℕ} {n end : ℕ} {words : List ℕ} (v : EndReady h f n end words) where
-  end-at : QueuedAt (length v.t.initial) n v.status words end v.p v.c
-  end-at = queued-at v.holds end v.there v.p v.c v.is
+  end_at : QueuedAt (length v.t.initial) n v.status words end v.p v.c
+  end_at = queued_at v.holds end v.there v.p v.c v.is
 
   module _ {s : ℕ} (below : s < n) where
     -- another state has a greater key, or the same
@@ -40,8 +40,8 @@ module _ {h : Head} {f : List ℕ} {n end : ℕ} {words : List ℕ} (v : EndRead
         key_cases v.c v.p e r
         (v.least.none_less (state_of (length v.t.initial) s) (state_bits (length v.t.initial) s) r e is)
 
-    pub other-cost : (get_or words s 0 ≡ get_or words end 0 → ⊥) → Rivals v s false
-    other-cost ne = gives_way (λ r e is goal. go r e is (other_keys r e is))
+    pub other_cost : (get_or words s 0 ≡ get_or words end 0 → ⊥) → Rivals v s false
+    other_cost ne = gives_way (λ r e is goal. go r e is (other_keys r e is))
       where
         go :
             (r : List ℕ) (e : ℕ)
@@ -49,10 +49,10 @@ module _ {h : Head} {f : List ℕ} {n end : ℕ} {words : List ℕ} (v : EndRead
             → KeyLess v.c v.p e r ⊎ ((v.c ≡ e) × (length v.p ≡ length r))
             → NoLater v.c v.p e r
         go r e is (inl k) = before (key_less_before k)
-        go r e is (inr k) = absurd (ne (omega (arith, end-at.word, (queued-at v.holds s below r e is).word, k.0)))
+        go r e is (inr k) = absurd (ne (omega (arith, end_at.word, (queued_at v.holds s below r e is).word, k.0)))
 
-    pub other-steps : (get_or words (n + s) 0 ≡ get_or words (n + end) 0 → ⊥) → Rivals v s false
-    other-steps ne = gives_way (λ r e is goal. go r e is (other_keys r e is))
+    pub other_steps : (get_or words (n + s) 0 ≡ get_or words (n + end) 0 → ⊥) → Rivals v s false
+    other_steps ne = gives_way (λ r e is goal. go r e is (other_keys r e is))
       where
         go :
             (r : List ℕ) (e : ℕ)
@@ -60,7 +60,7 @@ module _ {h : Head} {f : List ℕ} {n end : ℕ} {words : List ℕ} (v : EndRead
             → KeyLess v.c v.p e r ⊎ ((v.c ≡ e) × (length v.p ≡ length r))
             → NoLater v.c v.p e r
         go r e is (inl k) = before (key_less_before k)
-        go r e is (inr k) = absurd (ne (omega (arith, end-at.steps, (queued-at v.holds s below r e is).steps, k.1)))
+        go r e is (inr k) = absurd (ne (omega (arith, end_at.steps, (queued_at v.holds s below r e is).steps, k.1)))
 
     -- the same key
     module _ (costs : get_or words s 0 ≡ get_or words end 0) (steps : get_or words (n + s) 0 ≡ get_or words (n + end) 0) where
@@ -74,14 +74,14 @@ module _ {h : Head} {f : List ℕ} {n end : ℕ} {words : List ℕ} (v : EndRead
       level = go (stands_at (v.status (state_of (length v.t.initial) s)) (v.holds.at s below))
         where
           go : Stands (length v.t.initial) n v.status words s (v.status (state_of (length v.t.initial) s)) → Level
-          go (is_unreached is w) = absurd (omega (arith, end-at.word, end-at.bound))
-          go (is_taken r e is w) = absurd (omega (arith, end-at.word))
+          go (is_unreached is w) = absurd (omega (arith, end_at.word, end_at.bound))
+          go (is_taken r e is w) = absurd (omega (arith, end_at.word))
           go (is_queued r e is w m g x y) =
-              let c : e ≡ v.c = omega (arith, end-at.word) in
-              record { r = r; is = is ∙ rw c; size = omega (arith, end-at.steps); ends = g }
+              let c : e ≡ v.c = omega (arith, end_at.word) in
+              record { r = r; is = is ∙ rw c; size = omega (arith, end_at.steps); ends = g }
 
       unfoldable pub ends_comparable : Comparable n words (get_or words (2 * n + s) 0) (get_or words (2 * n + end) 0)
-      unfolding end-at
+      unfolding end_at
       ends_comparable =
           record {
             v = length v.t.initial;
@@ -91,7 +91,7 @@ module _ {h : Head} {f : List ℕ} {n end : ℕ} {words : List ℕ} (v : EndRead
             first = level.r;
             second = v.p;
             first_ends = level.ends;
-            second_ends = end-at.ends;
+            second_ends = end_at.ends;
             alike = level.size;
           }
 
@@ -111,10 +111,10 @@ module _ {h : Head} {f : List ℕ} {n end : ℕ} {words : List ℕ} (v : EndRead
           go (alike g) = equal refl g
           go (later g) = absurd (x g)
 
-      goal-same :
+      goal_same :
           holds (state_of h.variables s) (formula_of (upto h.formulas (row_at f)) h.goal) ≡ goal_holds v.t (state_of (length v.t.initial) s)
       unfolding goal_holds
-      goal-same = rw (v.variables, v.formulas, v.goal) refl
+      goal_same = rw (v.variables, v.formulas, v.goal) refl
 
       -- the list comes first, so the goal decides
       pub goal-decides :
@@ -127,9 +127,9 @@ module _ {h : Head} {f : List ℕ} {n end : ℕ} {words : List ℕ} (v : EndRead
       unfolding ends_comparable
       goal-decides (not_first x) e told = absurd (false≢true e)
       goal-decides (comes_first x) e {r = true} told =
-          takes_over level.r level.is level.size (sym goal-same ∙ sym told.told) x
+          takes_over level.r level.is level.size (sym goal_same ∙ sym told.told) x
       goal-decides (comes_first x) e {r = false} told =
-          gives_way (λ r d is goal. absurd (false≢true (told.told ∙ goal-same ∙ goal)))
+          gives_way (λ r d is goal. absurd (false≢true (told.told ∙ goal_same ∙ goal)))
 
 -- The loop: the best end among the states below i.
 pub record Best {h : Head} {f : List ℕ} {n first : ℕ} {words : List ℕ} (v : EndReady h f n first words) (i end : ℕ) : Type 0 where
@@ -148,8 +148,8 @@ pub record Best {h : Head} {f : List ℕ} {n first : ℕ} {words : List ℕ} (v 
       → NoLater c p e r
 
 module _ {h : Head} {f : List ℕ} {n first : ℕ} {words : List ℕ} (v : EndReady h f n first words) where
-  pub best-begin : Best v 0 first
-  best-begin =
+  pub best_begin : Best v 0 first
+  best_begin =
       record {
         there = v.there;
         p = v.p;
@@ -181,10 +181,10 @@ module _ {h : Head} {f : List ℕ} {n first : ℕ} {words : List ℕ} (v : EndRe
           least = b.least;
         }
 
-    pub best-stays : {r : Bool} → Rivals candidate i r → r ≡ false → Best v (i + 1) end
+    pub best_stays : {r : Bool} → Rivals candidate i r → r ≡ false → Best v (i + 1) end
     unfolding candidate
-    best-stays (takes_over r is size goal x) e = absurd (false≢true (sym e))
-    best-stays (gives_way x) e =
+    best_stays (takes_over r is size goal x) e = absurd (false≢true (sym e))
+    best_stays (gives_way x) e =
         record {
           there = b.there;
           p = b.p;
@@ -206,10 +206,10 @@ module _ {h : Head} {f : List ℕ} {n first : ℕ} {words : List ℕ} (v : EndRe
         go s l r e is goal (yes q) = x r e (rw q at is) (rw q at goal)
         go s l r e is goal (no q) = b.best s (omega arith) r e is goal
 
-    pub best-changes : {r : Bool} → Rivals candidate i r → r ≡ true → i < n → Best v (i + 1) i
+    pub best_changes : {r : Bool} → Rivals candidate i r → r ≡ true → i < n → Best v (i + 1) i
     unfolding candidate
-    best-changes (gives_way x) e below = absurd (false≢true e)
-    best-changes (takes_over r is size goal x) e below =
+    best_changes (gives_way x) e below = absurd (false≢true e)
+    best_changes (takes_over r is size goal x) e below =
         record {
           there = below;
           p = r;
@@ -238,7 +238,7 @@ module _ {h : Head} {f : List ℕ} {n first : ℕ} {words : List ℕ} (v : EndRe
         go s l q d w g (no other) = no_later_transitive (before (earlier refl x)) (b.best s (omega arith) q d w g)
 
     -- one round, by which end comes out of it
-    pub best-round :
+    pub best_round :
         {A B : Type 0} {r : Bool} {next : ℕ}
         → Rivals candidate i r
         → i < n
@@ -246,12 +246,12 @@ module _ {h : Head} {f : List ℕ} {n first : ℕ} {words : List ℕ} (v : EndRe
         → (A → (r ≡ true) × (next ≡ i))
         → (B → (r ≡ false) × (next ≡ end))
         → Best v (i + 1) next
-    best-round rivals below (inl a) changes stays = rw (changes a).1 (best-changes rivals (changes a).0 below)
-    best-round rivals below (inr b) changes stays = rw (stays b).1 (best-stays rivals (stays b).0)
+    best_round rivals below (inl a) changes stays = rw (changes a).1 (best_changes rivals (changes a).0 below)
+    best_round rivals below (inr b) changes stays = rw (stays b).1 (best_stays rivals (stays b).0)
 
   -- all states
-  pub best-found : {i end : ℕ} → Best v i end → n ≤ i → EndFound v.t n end words
-  best-found {i} {end} b all =
+  pub best_found : {i end : ℕ} → Best v i end → n ≤ i → EndFound v.t n end words
+  best_found {i} {end} b all =
       record {
         p = b.p;
         c = b.c;
@@ -259,7 +259,7 @@ module _ {h : Head} {f : List ℕ} {n first : ℕ} {words : List ℕ} (v : EndRe
         holds = v.holds;
         is = b.is;
         best =
-            end-is-cheapest v.t v.ground.passes v.searching (state_of (length v.t.initial) end)
+            end_is_cheapest v.t v.ground.passes v.searching (state_of (length v.t.initial) end)
             (state_bits (length v.t.initial) end) b.p b.c b.is b.ends b.least
             (λ y bits r e is goal.
             let there = state_of_code (length v.t.initial) y bits in

@@ -15,7 +15,7 @@ use Rattle.cheapest_plan.specs.Inner.Tables.{Stepping, Noting, Relaxable, Zeros,
 use Rattle.cheapest_plan.specs.Inner.Visits.{Stage, SteppedTo, NotedTo}
 use Rattle.cheapest_plan.proofs.States.{state_bits}
 use Rattle.cheapest_plan.proofs.Searching.{passed_over}
-use Rattle.cheapest_plan.proofs.Relaxing.{taken-short, taken-cheap}
+use Rattle.cheapest_plan.proofs.Relaxing.{taken_short, taken_cheap}
 
 -- a bit that is 0, and one that is not
 pub bit_false : (b : Bool) → bit b ≡ 0 → b ≡ false
@@ -42,8 +42,8 @@ module _
     place : Bits (length h.t.initial) (state_of (length h.t.initial) state)
     place = state_bits (length h.t.initial) state
 
-    pub effect-inside : {effect : ℕ} → effect ≡ (operator_at operators k).effect → effect < length masks
-    effect-inside e = rw e (h.effect k below)
+    pub effect_inside : {effect : ℕ} → effect ≡ (operator_at operators k).effect → effect < length masks
+    effect_inside e = rw e (h.effect k below)
 
     module _ {asked : ℕ} (precondition : asked ≡ (operator_at operators k).precondition) where
       pub asked-inside : asked < length values
@@ -82,8 +82,8 @@ module _
           pub sums-fit : (cost + price ≤ 134215681) × (steps + 1 ≤ 1024)
           sums-fit =
               let s = state_of (length h.t.initial) state in
-              let c = taken-cheap h.ground at.stepping.searching s place h.p h.c at.stepping.is_taken in
-              let d = taken-short h.ground at.stepping.searching s place h.p h.c at.stepping.is_taken in
+              let c = taken_cheap h.ground at.stepping.searching s place h.p h.c at.stepping.is_taken in
+              let d = taken_short h.ground at.stepping.searching s place h.p h.c at.stepping.is_taken in
               let e = h.ground.cheap s k in
               (omega (arith, h.costs, h.ground.few, charge-is), omega (arith, h.size, h.ground.few))
 

@@ -18,20 +18,20 @@ unfoldable pub update : (List ℕ → Status) → ℕ → Status → List ℕ �
 update status s now x = cond (eqb (code x) s) now (status x)
 
 module _ (v : ℕ) {n : ℕ} (size : n ≡ 2 ^ v) where
-  pub code-there : (s : ℕ) → s < n → code (state_of v s) ≡ s
-  code-there s l = code_of_state v s (rw size at l)
+  pub code_there : (s : ℕ) → s < n → code (state_of v s) ≡ s
+  code_there s l = code_of_state v s (rw size at l)
 
   pub updated : (status : List ℕ → Status) (s : ℕ) (now : Status) → s < n → Changed v status (update status s now) (state_of v s) now
   unfolding update
   updated status s now l =
       record {
-        here = rw (eq-eqb (code (state_of v s)) s (code-there s l));
+        here = rw (eq-eqb (code (state_of v s)) s (code_there s l));
         elsewhere = λ x bits ne. rw (ne_eqb (code x) s (λ e. ne (sym (state_of_code v x bits) ∙ ap (state_of v) e)));
       }
 
   -- a state of another code is another state
-  pub other-state : (s x : ℕ) → s < n → x < n → (x ≡ s → ⊥) → state_of v x ≡ state_of v s → ⊥
-  other-state s x l m ne e = ne (sym (code-there x m) ∙ ap code e ∙ code-there s l)
+  pub other_state : (s x : ℕ) → s < n → x < n → (x ≡ s → ⊥) → state_of v x ≡ state_of v s → ⊥
+  other_state s x l m ne e = ne (sym (code_there x m) ∙ ap code e ∙ code_there s l)
 
 -- what the words of a state say, by cases
 pub data Stands (v n : ℕ) (status : List ℕ → Status) (words : List ℕ) (s : ℕ) (now : Status) : Type 0 where
@@ -97,18 +97,18 @@ module _
     (not_taken : (p : List ℕ) (c : ℕ) → status (state_of v s) ≡ taken p c → ⊥)
     (words : Elsewhere n s before after)
   where
-    pub still-taken : (a : ℕ) (p : List ℕ) (c : ℕ) → a < n → status (state_of v a) ≡ taken p c → status' (state_of v a) ≡ taken p c
-    still-taken a p c l e = go (ℕ_discrete a s)
+    pub still_taken : (a : ℕ) (p : List ℕ) (c : ℕ) → a < n → status (state_of v a) ≡ taken p c → status' (state_of v a) ≡ taken p c
+    still_taken a p c l e = go (ℕ_discrete a s)
       where
         go : Dec (a ≡ s) → status' (state_of v a) ≡ taken p c
         go (yes q) = absurd (not_taken p c (rw q at e))
-        go (no q) = change.elsewhere (state_of v a) (state_bits v a) (other-state v size s a there l q) ∙ e
+        go (no q) = change.elsewhere (state_of v a) (state_bits v a) (other_state v size s a there l q) ∙ e
 
-    pub holds-changed : Holds v n status before → Says v n status' after s now → Holds v n status' after
-    holds-changed h says = record { at = λ x l. go x l (ℕ_discrete x s) }
+    pub holds_changed : Holds v n status before → Says v n status' after s now → Holds v n status' after
+    holds_changed h says = record { at = λ x l. go x l (ℕ_discrete x s) }
       where
         go : (x : ℕ) → x < n → Dec (x ≡ s) → Says v n status' after x (status' (state_of v x))
         go x l (yes q) = rw (q, change.here) says
         go x l (no q) =
-            rw (change.elsewhere (state_of v x) (state_bits v x) (other-state v size s x there l q))
-            (says_on still-taken (status (state_of v x)) (words.costs x l q) (words.steps x l q) (words.lasts x l q) (h.at x l))
+            rw (change.elsewhere (state_of v x) (state_bits v x) (other_state v size s x there l q))
+            (says_on still_taken (status (state_of v x)) (words.costs x l q) (words.steps x l q) (words.lasts x l q) (h.at x l))

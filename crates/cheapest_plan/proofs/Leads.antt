@@ -11,8 +11,8 @@ use lib.Dec.{ltb}
 use Rattle.task.specs.Table.{Task}
 use Rattle.task.specs.Semantics.{sets, clears, effcond, value_after, apply}
 use Rattle.task.specs.Run.{goal_holds, applicable, charge, effect_of_operator, operator_of, Progress, after_step, ended, Run, answer, run_on, plain_run, unstopped, is_plan}
-use Rattle.task.proofs.Bounded.{and_left, and_right, getD-upto}
-use Rattle.task.proofs.Runs.{permits, Does, none, more, start, ended-run, goal_told, length-after, plan_exactly_if}
+use Rattle.task.proofs.Bounded.{and_left, and_right, getD_upto}
+use Rattle.task.proofs.Runs.{permits, Does, none, more, start, ended_run, goal_told, length_after, plan_exactly_if}
 use Rattle.cheapest_plan.specs.Order.{Plan, cost_of}
 use Rattle.cheapest_plan.specs.Inner.Leads.{next, Leads, stays, goes, Below, nothing, number}
 use Rattle.cheapest_plan.specs.Inner.States.{Bits}
@@ -79,7 +79,7 @@ pub run_leads :
     Leads t s numbers r.state r.cost
 unfolding answer
 run_leads t s numbers e =
-    let r = ended-run t s numbers e in
+    let r = ended_run t s numbers e in
     let l = does_leads r.done in
     let sum = l.cost in
     let total : r.at.cost ≡ l.charged = omega arith in
@@ -104,20 +104,20 @@ pub record LastStep (t : Task) (s p : List ℕ) (o : ℕ) (to : List ℕ) (c : �
 
 module _ {t : Task} where
   -- from the front: one list behind another
-  pub leads-append :
+  pub leads_append :
       {s p at q to : List ℕ} {c d e : ℕ} → Leads t s p at c → Leads t at q to d → c + d ≡ e → Leads t s (p ++ q) to e
-  leads-append {d = d} {e = e} (stays same z) m sum =
+  leads_append {d = d} {e = e} (stays same z) m sum =
       let cost : d ≡ e = omega arith in
       rw (same, ← cost) m
-  leads-append {d = d} {e = e} (goes {s = s} {o = o} {d = b} a l z) m sum =
+  leads_append {d = d} {e = e} (goes {s = s} {o = o} {d = b} a l z) m sum =
       let cost : charge t s o + (b + d) ≡ e = omega arith in
-      goes a (leads-append l m refl) cost
+      goes a (leads_append l m refl) cost
 
-  pub leads-split : (p : List ℕ) {s q to : List ℕ} {c : ℕ} → Leads t s (p ++ q) to c → Halves t s p q to c
-  leads-split [] {s} {c = c} l =
+  pub leads_split : (p : List ℕ) {s q to : List ℕ} {c : ℕ} → Leads t s (p ++ q) to c → Halves t s p q to c
+  leads_split [] {s} {c = c} l =
       record { at = s; first = 0; second = c; leads = stays refl refl; then = l; sum = omega arith }
-  leads-split (o ∷ p) {s} (goes a l z) =
-      let h = leads-split p l in
+  leads_split (o ∷ p) {s} (goes a l z) =
+      let h = leads_split p l in
       let sum = h.sum in
       record {
         at = h.at;
@@ -129,31 +129,31 @@ module _ {t : Task} where
       }
 
   -- a list leads from a state to one state, at one cost
-  pub leads-once :
+  pub leads_once :
       {s p to to' : List ℕ} {c c' : ℕ} → Leads t s p to c → Leads t s p to' c' → (to ≡ to') × (c ≡ c')
-  leads-once (stays e z) (stays f y) = (sym e ∙ f, sym z ∙ y)
-  leads-once (goes a l z) (goes b m y) =
-      let once = leads-once l m in
+  leads_once (stays e z) (stays f y) = (sym e ∙ f, sym z ∙ y)
+  leads_once (goes a l z) (goes b m y) =
+      let once = leads_once l m in
       let costs = once.1 in
       (once.0, omega arith)
 
   -- from the back: one more number
-  pub leads-more :
+  pub leads_more :
       {s p at : List ℕ} {c : ℕ}
       → Leads t s p at c
       → (o : ℕ)
       → applicable t at o ≡ true
       → Leads t s (p ++ (o ∷ [])) (next t at o) (c + charge t at o)
-  leads-more {at = at} l o a =
+  leads_more {at = at} l o a =
       let cost : charge t at o + 0 ≡ charge t at o = omega arith in
-      leads-append l (goes a (stays refl refl) cost) refl
+      leads_append l (goes a (stays refl refl) cost) refl
 
-  pub leads-last :
+  pub leads_last :
       (p : List ℕ) {s : List ℕ} {o : ℕ} {to : List ℕ} {c : ℕ} → Leads t s (p ++ (o ∷ [])) to c → LastStep t s p o to c
-  leads-last [] {s} (goes a (stays e z) y) =
+  leads_last [] {s} (goes a (stays e z) y) =
       record { at = s; before = 0; leads = stays refl refl; applies = a; state = e; cost = omega arith }
-  leads-last (b ∷ p) {s} (goes a l y) =
-      let h = leads-last p l in
+  leads_last (b ∷ p) {s} (goes a l y) =
+      let h = leads_last p l in
       let sum = h.cost in
       record {
         at = h.at;
@@ -165,9 +165,9 @@ module _ {t : Task} where
       }
 
   -- its numbers are all below O
-  pub leads-below : {s p to : List ℕ} {c : ℕ} → Leads t s p to c → Below (length t.operators) p
-  leads-below (stays e z) = nothing
-  leads-below (goes {s = s} {o = o} a l z) = number (below_operators t s o a) (leads-below l)
+  pub leads_below : {s p to : List ℕ} {c : ℕ} → Leads t s p to c → Below (length t.operators) p
+  leads_below (stays e z) = nothing
+  leads_below (goes {s = s} {o = o} a l z) = number (below_operators t s o a) (leads_below l)
 
 -- a plan is a list that leads from the initial state to one where the goal holds
 pub record Reaches (t : Task) (numbers : List ℕ) : Type 0 where
@@ -176,9 +176,9 @@ pub record Reaches (t : Task) (numbers : List ℕ) : Type 0 where
   pub goal : goal_holds t at ≡ true
 
 module _ (t : Task) (numbers : List ℕ) where
-  pub plan-reaches : Plan t numbers → Reaches t numbers
+  pub plan_reaches : Plan t numbers → Reaches t numbers
   unfolding goal_holds
-  plan-reaches p =
+  plan_reaches p =
       let r = plain_run t t.initial numbers in
       let h = (plan_exactly_if r).0 p in
       record {
@@ -187,10 +187,10 @@ module _ (t : Task) (numbers : List ℕ) where
         goal = sym (goal_told t t.initial numbers) ∙ h.1;
       }
 
-  pub reaches-plan :
+  pub reaches_plan :
       {to : List ℕ} {c : ℕ} → Leads t t.initial numbers to c → goal_holds t to ≡ true → Plan t numbers × (cost_of t numbers ≡ c)
   unfolding plain_run answer is_plan unstopped
-  reaches-plan {to} {c} l g =
+  reaches_plan {to} {c} l g =
       let told = leads_run l (start t.initial) refl in
       let plan : Plan t numbers = rw told g in
       let from-none : 0 + c ≡ c = omega arith in
@@ -206,10 +206,10 @@ pub next_bits : (t : Task) {v : ℕ} {s : List ℕ} (o : ℕ) → Bits v s → B
 unfolding next apply value_after
 next_bits t {v} {s} o b =
     record {
-      size = length-after s (effect_of_operator t o) ∙ b.size;
+      size = length_after s (effect_of_operator t o) ∙ b.size;
       bits =
-          λ k below. let inside : k < length s = rw (length-after s (effect_of_operator t o)) at below in
-          rw (getD-upto (length s) (value_after s (effect_of_operator t o)) k 0 inside)
+          λ k below. let inside : k < length s = rw (length_after s (effect_of_operator t o)) at below in
+          rw (getD_upto (length s) (value_after s (effect_of_operator t o)) k 0 inside)
           (value_bits (effcond s (sets k) (effect_of_operator t o)) (effcond s (clears k) (effect_of_operator t o))
           (b.bits k inside));
     }

@@ -83,20 +83,20 @@ module _ (t : Task) (p : List ℕ) (rest : List (List ℕ)) (each : (q : List �
       least q (here e) plan = rw e (before (cheaper (leb-false (cost_of t p) d (over (rw e at plan)))))
       least q (there m) plan = f.least q m plan
 
-  picks-one :
+  picks_one :
       (later : Pick)
       → Picks t rest later
       → (b m : Bool)
       → is_plan (plain_run t t.initial p) ≡ b
       → no_dearer (cost_of t p) later ≡ m
       → Picks t (p ∷ rest) (cond (b && m) (plan_of p (cost_of t p)) later)
-  picks-one later found true true plan fits = finds (taken later found plan fits)
-  picks-one later found true false plan fits = passed later found (λ x. fits)
-  picks-one later found false m plan fits = passed later found (λ x. absurd (false≢true (sym plan ∙ x)))
+  picks_one later found true true plan fits = finds (taken later found plan fits)
+  picks_one later found true false plan fits = passed later found (λ x. fits)
+  picks_one later found false m plan fits = passed later found (λ x. absurd (false≢true (sym plan ∙ x)))
 
 pub picks : (t : Task) {lists : List (List ℕ)} → Ordered lists → Picks t lists (first_cheapest t lists)
 unfolding first_cheapest unless_later
 picks t ends = finds_none (λ q m plan. none-among m)
 picks t (then {p = p} {rest = rest} each ordered) =
-    picks-one t p rest each (first_cheapest t rest) (picks t ordered) (is_plan (plain_run t t.initial p))
+    picks_one t p rest each (first_cheapest t rest) (picks t ordered) (is_plan (plain_run t t.initial p))
     (no_dearer (cost_of t p) (first_cheapest t rest)) refl refl

@@ -15,11 +15,11 @@ use Rattle.task.specs.Check.{refusal, unless}
 use Rattle.task.specs.Rules.{no_operator}
 use Rattle.task.proofs.Charges.{charge_most}
 use Rattle.task.specs.Run.{charge_of, charge, operator_of}
-use Rattle.task.proofs.Bounded.{and_left, and_right, length-upto, getD-upto}
-use Rattle.task.proofs.Held.{length-initial, length-effects, length-operators}
-use Rattle.task.proofs.Kept.{kept-rules}
+use Rattle.task.proofs.Bounded.{and_left, and_right, length_upto, getD_upto}
+use Rattle.task.proofs.Held.{length_initial, length_effects, length_operators}
+use Rattle.task.proofs.Kept.{kept_rules}
 use Rattle.stepper.specs.Stepped.{first_of, step_scratch_kept}
-use Rattle.stepper.proofs.Refusing.{first, first_none, rest_none, unless_kept, tables-ready}
+use Rattle.stepper.proofs.Refusing.{first, first_none, rest_none, unless_kept, tables_ready}
 use Rattle.cheapest_plan.specs.Planned.{few_variables, search_scratch_kept, search_refusal}
 use Rattle.cheapest_plan.specs.Inner.Visits.{TaskIn}
 use Rattle.cheapest_plan.specs.Inner.Plans.{PlanReady}
@@ -39,18 +39,18 @@ unless_rest false n rest d e = absurd (d e)
 
 -- the ways out of `refused_early`
 module _ (l : Lent) (scratch words : List ℕ) (n : ℕ) (checked : n ≡ refusal l) where
-  pub refused-tables : (n ≡ 0 → ⊥) → n ≡ search_refusal l scratch words
+  pub refused_tables : (n ≡ 0 → ⊥) → n ≡ search_refusal l scratch words
   unfolding search_refusal
-  refused-tables d =
+  refused_tables d =
       rw (← checked) (first n (unless (few_variables l.head) 21 (unless (search_scratch_kept l.head scratch words) 14 0)) d)
 
   module _ (passed : n ≡ 0) where
     none : refusal l ≡ 0
     none = sym checked ∙ passed
 
-    pub refused-variables : 10 < l.head.variables → 21 ≡ search_refusal l scratch words
+    pub refused_variables : 10 < l.head.variables → 21 ≡ search_refusal l scratch words
     unfolding search_refusal few_variables
-    refused-variables h = rw (none, lt-leb l.head.variables 10 h)
+    refused_variables h = rw (none, lt-leb l.head.variables 10 h)
 
     module _ (few : l.head.variables ≤ 10) where
       pub refused-bytes : length scratch < l.head.formulas + l.head.effects → 14 ≡ search_refusal l scratch words
@@ -81,18 +81,18 @@ module _ (l : Lent) (scratch words : List ℕ) (n : ℕ) (checked : n ≡ refusa
 
 -- once none is given, a search may begin
 module _ (l : Lent) (words16 : (i : ℕ) → get_or l.operators i 0 < 65536) where
-  low-cost : (o : ℕ) → o < l.head.operators → (get_or (task_of l).operators o no_operator).cost ≤ 65535
+  low_cost : (o : ℕ) → o < l.head.operators → (get_or (task_of l).operators o no_operator).cost ≤ 65535
   unfolding task_of operator_at
-  low-cost o h =
-      rw (getD-upto l.head.operators (operator_at l.operators) o no_operator h) (omega (arith, words16 (operator_width * o + 2)))
+  low_cost o h =
+      rw (getD_upto l.head.operators (operator_at l.operators) o no_operator h) (omega (arith, words16 (operator_width * o + 2)))
 
   module _ (scratch words : List ℕ) (passed : search_refusal l scratch words ≡ 0) where
     later : ℕ
     later = unless (few_variables l.head) 21 (unless (search_scratch_kept l.head scratch words) 14 0)
 
-    pub tables-passed : refusal l ≡ 0
+    pub tables_passed : refusal l ≡ 0
     unfolding search_refusal later
-    tables-passed = first_none (refusal l) later passed
+    tables_passed = first_none (refusal l) later passed
 
     pub variables_few : l.head.variables ≤ 10
     unfolding search_refusal later few_variables
@@ -107,8 +107,8 @@ module _ (l : Lent) (words16 : (i : ℕ) → get_or l.operators i 0 < 65536) whe
       where
         go : Dec (o < length (task_of l).operators) → charge_of (get_or (task_of l).operators o no_operator) ≤ 131070
         go (yes h) =
-            charge_most (get_or (task_of l).operators o no_operator) (low-cost o (rw (length-operators l) at h))
-            ((kept-rules l tables-passed).1.operator o h).percent
+            charge_most (get_or (task_of l).operators o no_operator) (low_cost o (rw (length_operators l) at h))
+            ((kept_rules l tables_passed).1.operator o h).percent
         go (no h) =
             let outside : length (task_of l).operators ≤ o = omega arith in
             rw (get_or-eq_default (task_of l).operators no_operator {n = o} outside) (charge_most no_operator (omega arith) (omega arith))
@@ -120,35 +120,35 @@ module _ (l : Lent) (words16 : (i : ℕ) → get_or l.operators i 0 < 65536) whe
         (unless_rest (few_variables l.head) 21 (unless (search_scratch_kept l.head scratch words) 14 0) (omega arith)
         (rest_none (refusal l) later passed))
 
-    pub bytes-there : l.head.formulas + l.head.effects ≤ length scratch
+    pub bytes_there : l.head.formulas + l.head.effects ≤ length scratch
     unfolding step_scratch_kept
-    bytes-there =
+    bytes_there =
         leb-true (l.head.formulas + l.head.effects) (length scratch)
         (and_left (step_scratch_kept l.head scratch) (leb (4 * 2 ^ l.head.variables) (length words)) roomy)
 
-    pub words-there : 4 * 2 ^ l.head.variables ≤ length words
-    words-there =
+    pub words_there : 4 * 2 ^ l.head.variables ≤ length words
+    words_there =
         leb-true (4 * 2 ^ l.head.variables) (length words)
         (and_right (step_scratch_kept l.head scratch) (leb (4 * 2 ^ l.head.variables) (length words)) roomy)
 
     unfoldable pub tables_in : TaskIn (task_of l) l.head l.formulas l.effects l.operators
     unfolding task_of
     tables_in =
-        let rules = kept-rules l tables-passed in
+        let rules = kept_rules l tables_passed in
         record {
-          variables = length-initial l rules.0;
+          variables = length_initial l rules.0;
           formulas = refl;
           effects = refl;
           operators = refl;
           goal = refl;
-          ready = tables-ready l tables-passed;
-          few = omega (arith, rules.1.limits.operators, length-operators l);
+          ready = tables_ready l tables_passed;
+          few = omega (arith, rules.1.limits.operators, length_operators l);
         }
 
     unfoldable pub search_ready : PlanReady l.head l.initial l.formulas l.effects l.operators scratch words
     unfolding task_of
     search_ready =
-        let rules = kept-rules l tables-passed in
+        let rules = kept_rules l tables_passed in
         record {
           t = task_of l;
           tables = tables_in;
@@ -157,7 +157,7 @@ module _ (l : Lent) (words16 : (i : ℕ) → get_or l.operators i 0 < 65536) whe
           starts = refl;
           few = variables_few;
           there = rules.0.initial;
-          effects = omega (arith, rules.1.limits.effects, length-effects l);
-          room = omega (arith, bytes-there);
-          words_room = words-there;
+          effects = omega (arith, rules.1.limits.effects, length_effects l);
+          room = omega (arith, bytes_there);
+          words_room = words_there;
         }

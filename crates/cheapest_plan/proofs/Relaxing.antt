@@ -18,15 +18,15 @@ use Rattle.cheapest_plan.specs.Inner.Leads.{next, Leads, stays, goes}
 use Rattle.cheapest_plan.specs.Inner.States.{Bits, code, state_of}
 use Rattle.cheapest_plan.specs.Inner.Search.{NoLater, equal, before, Status, unreached, queued, taken, Has, waits, stands, Reached, Searching, Changed}
 use Rattle.cheapest_plan.specs.Inner.Tables.{Ends, at_start, by_step, most_cost, Says, says_queued, Holds, Verdict, comes_first, not_first, Noted, Pairs, Notes, Ground, Stepping}
-use Rattle.cheapest_plan.specs.Inner.Tables.{Noting, Relaxable, left_state, new_state, new_list, new_cost, Judged, old-stays, new-comes, Judges, MayQueue, Elsewhere, QueuedNow, Zeros, Relaxes}
+use Rattle.cheapest_plan.specs.Inner.Tables.{Noting, Relaxable, left_state, new_state, new_list, new_cost, Judged, old_stays, new_comes, Judges, MayQueue, Elsewhere, QueuedNow, Zeros, Relaxes}
 use Rattle.cheapest_plan.proofs.Order.{Compared, sooner, alike, later, by_numbers_length, by_numbers_irreflexive, by_numbers_total, by_numbers_last}
-use Rattle.cheapest_plan.proofs.Leads.{leads-once, next_bits}
+use Rattle.cheapest_plan.proofs.Leads.{leads_once, next_bits}
 use Rattle.cheapest_plan.proofs.Loops.{shorten}
 use Rattle.cheapest_plan.proofs.States.{state_bits, state_of_code, code_of_state}
-use Rattle.cheapest_plan.proofs.Search.{start-bits, has_one}
-use Rattle.cheapest_plan.proofs.Searching.{kept, taken-before, queues}
+use Rattle.cheapest_plan.proofs.Search.{start_bits, has_one}
+use Rattle.cheapest_plan.proofs.Searching.{kept, taken_before, queues}
 use Rattle.cheapest_plan.proofs.Comparing.{not_last, behind}
-use Rattle.cheapest_plan.proofs.Holding.{update, code-there, updated, other-state, Stands, is_unreached, is_queued, is_taken, stands_at, still-taken, holds-changed}
+use Rattle.cheapest_plan.proofs.Holding.{update, code_there, updated, other_state, Stands, is_unreached, is_queued, is_taken, stands_at, still_taken, holds_changed}
 
 -- a list costs at most 131,070 for each step
 pub leads_cheap :
@@ -49,16 +49,16 @@ no_later_short (before (earlier e f)) m l = omega (arith, by_numbers_length f)
 
 module _ {t : Task} {n : ℕ} (ground : Ground t n) {status : List ℕ → Status} {last : List ℕ} {k : ℕ} (searching : Searching t status last k) where
   -- the list of a state that is taken has fewer than n steps
-  pub taken-short : (s : List ℕ) → Bits (length t.initial) s → (p : List ℕ) (c : ℕ) → status s ≡ taken p c → length p < n
-  taken-short s bits p c is =
+  pub taken_short : (s : List ℕ) → Bits (length t.initial) s → (p : List ℕ) (c : ℕ) → status s ≡ taken p c → length p < n
+  taken_short s bits p c is =
       let l = searching.leads s bits p c (stands is) in
-      let short = shorten (start-bits t ground.passes) l in
+      let short = shorten (start_bits t ground.passes) l in
       let some : 1 ≤ 2 ^ length t.initial = one-le-pow (length t.initial) 2 (omega arith) in
       no_later_short (searching.best s bits p c is short.numbers short.cost short.leads) short.no_later
       (omega (arith, short.steps, ground.states))
 
-  pub taken-cheap : (s : List ℕ) → Bits (length t.initial) s → (p : List ℕ) (c : ℕ) → status s ≡ taken p c → c ≤ 131070 * length p
-  taken-cheap s bits p c is = leads_cheap ground.cheap (searching.leads s bits p c (stands is))
+  pub taken_cheap : (s : List ℕ) → Bits (length t.initial) s → (p : List ℕ) (c : ℕ) → status s ≡ taken p c → c ≤ 131070 * length p
+  taken_cheap s bits p c is = leads_cheap ground.cheap (searching.leads s bits p c (stands is))
 
   -- states that are taken have lists of their own
   pub alone :
@@ -71,9 +71,9 @@ module _ {t : Task} {n : ℕ} (ground : Ground t n) {status : List ℕ → Statu
   alone a b p c d l m is is' =
       let v = length t.initial in
       let once =
-      (leads-once (searching.leads (state_of v a) (state_bits v a) p c (stands is))
+      (leads_once (searching.leads (state_of v a) (state_bits v a) p c (stands is))
       (searching.leads (state_of v b) (state_bits v b) p d (stands is'))).0 in
-      sym (code-there v ground.states a l) ∙ ap code once ∙ code-there v ground.states b m
+      sym (code_there v ground.states a l) ∙ ap code once ∙ code_there v ground.states b m
 
 -- two numbers in one, by the high one or by the low one
 by_high : (a c x y : ℕ) → (a ≡ c → ⊥) → x < 4294967296 → y < 4294967296 → ltb (a * 4294967296 + x) (c * 4294967296 + y) ≡ ltb a c
@@ -108,15 +108,15 @@ module _ {n : ℕ} {words : List ℕ} {to cost steps step : ℕ} {notes : List �
   place : Bits (length h.t.initial) (left_state h)
   place = state_bits (length h.t.initial) h.from
 
-  pub new-length : length (new_list h) ≡ steps
-  new-length = omega (arith, h.longer, length-append h.p (h.k ∷ []))
+  pub new_length : length (new_list h) ≡ steps
+  new_length = omega (arith, h.longer, length-append h.p (h.k ∷ []))
 
   few : length h.p < n
-  few = taken-short h.ground h.stepping.searching (left_state h) place h.p h.c h.stepping.is_taken
+  few = taken_short h.ground h.stepping.searching (left_state h) place h.p h.c h.stepping.is_taken
 
   pub bounded : (cost ≤ 134215681) × (steps ≤ 1024) × (0 < cost)
   bounded =
-      let c = taken-cheap h.ground h.stepping.searching (left_state h) place h.p h.c h.stepping.is_taken in
+      let c = taken_cheap h.ground h.stepping.searching (left_state h) place h.p h.c h.stepping.is_taken in
       let d = h.ground.cheap (left_state h) h.k in
       (omega (arith, h.costs, few, h.ground.few), omega (arith, few, h.ground.few, h.longer), omega (arith, h.costs))
 
@@ -124,46 +124,46 @@ module _ {n : ℕ} {words : List ℕ} {to cost steps step : ℕ} {notes : List �
   here = stands_at (h.stepping.status (new_state h)) (rw h.target at (h.stepping.holds.at to h.there))
 
   -- the list that stands there is no later
-  stays-as-is : (r : List ℕ) (e : ℕ) → h.stepping.status (new_state h) ≡ queued r e → NoLater e r (new_cost h) (new_list h) → Judged h true
-  stays-as-is r e is n =
-      old-stays
+  stays_as_is : (r : List ℕ) (e : ℕ) → h.stepping.status (new_state h) ≡ queued r e → NoLater e r (new_cost h) (new_list h) → Judged h true
+  stays_as_is r e is n =
+      old_stays
       (kept h.t h.ground.passes h.stepping.searching place h.p h.c h.stepping.is_taken
       (record { numbers = r; cost = e; has = waits is; no_later = n }))
 
-  stays-taken : (r : List ℕ) (e : ℕ) → h.stepping.status (new_state h) ≡ taken r e → Judged h true
-  stays-taken r e is =
-      old-stays
-      (taken-before h.t h.ground.passes h.stepping.searching place h.p h.c h.stepping.is_taken h.applies r e is)
+  stays_taken : (r : List ℕ) (e : ℕ) → h.stepping.status (new_state h) ≡ taken r e → Judged h true
+  stays_taken r e is =
+      old_stays
+      (taken_before h.t h.ground.passes h.stepping.searching place h.p h.c h.stepping.is_taken h.applies r e is)
 
   -- the new list is better than the one that stands there, or none does
-  comes-to-queued :
+  comes_to_queued :
       (r : List ℕ) (e : ℕ)
       → h.stepping.status (new_state h) ≡ queued r e
       → NoLater (new_cost h) (new_list h) e r
       → queue_cost cost * 4294967296 + steps ≤ key words n to
       → Judged h false
-  comes-to-queued r e is n k =
-      new-comes (λ q d f. let z : ◌≡◌ {A = ℕ} 0 1 = cc in omega arith)
+  comes_to_queued r e is n k =
+      new_comes (λ q d f. let z : ◌≡◌ {A = ℕ} 0 1 = cc in omega arith)
       (λ q d f. let one = has_one (waits is) (waits f) in rw (← one.0, ← one.1) n)
       k
 
-  comes-to-unreached : h.stepping.status (new_state h) ≡ unreached → queue_cost cost * 4294967296 + steps ≤ key words n to → Judged h false
-  comes-to-unreached is k =
-      new-comes (λ q d f. let z : ◌≡◌ {A = ℕ} 0 1 = cc in omega arith)
+  comes_to_unreached : h.stepping.status (new_state h) ≡ unreached → queue_cost cost * 4294967296 + steps ≤ key words n to → Judged h false
+  comes_to_unreached is k =
+      new_comes (λ q d f. let z : ◌≡◌ {A = ℕ} 0 1 = cc in omega arith)
       (λ q d f. let z : ◌≡◌ {A = ℕ} 0 1 = cc in absurd (omega arith))
       k
 
-  new-key : queue_cost cost * 4294967296 + steps ≡ new_cost h * 4294967296 + steps
-  new-key =
+  new_key : queue_cost cost * 4294967296 + steps ≡ new_cost h * 4294967296 + steps
+  new_key =
       let b = bounded in
       let c : cost - 1 ≡ new_cost h = omega (arith, h.costs) in
       rw (sym (cost_else cost (λ z. omega arith)), c) refl
 
-  old-key : (e : ℕ) → get_or words to 0 ≡ e + 1 → key words n to ≡ e * 4294967296 + get_or words (n + to) 0
-  old-key e w = key_there words n to e w
+  old_key : (e : ℕ) → get_or words to 0 ≡ e + 1 → key words n to ≡ e * 4294967296 + get_or words (n + to) 0
+  old_key e w = key_there words n to e w
 
-  pub by-cost : (get_or words to 0 ≡ cost → ⊥) → Judged h (ltb (get_or words to 0) cost)
-  by-cost ne = go here (dec_lt (get_or words to 0) cost)
+  pub by_cost : (get_or words to 0 ≡ cost → ⊥) → Judged h (ltb (get_or words to 0) cost)
+  by_cost ne = go here (dec_lt (get_or words to 0) cost)
     where
       go :
           Stands (length h.t.initial) n h.stepping.status words to (h.stepping.status (new_state h))
@@ -171,19 +171,19 @@ module _ {n : ℕ} {words : List ℕ} {to cost steps step : ℕ} {notes : List �
           → Judged h (ltb (get_or words to 0) cost)
       go (is_unreached is w) (yes l) = let b = bounded in absurd (omega arith)
       go (is_queued r e is w m f x z) (yes l) =
-          rw (lt-ltb (get_or words to 0) cost l) (stays-as-is r e is (before (cheaper (omega (arith, h.costs)))))
-      go (is_taken r e is w) (yes l) = rw (lt-ltb (get_or words to 0) cost l) (stays-taken r e is)
+          rw (lt-ltb (get_or words to 0) cost l) (stays_as_is r e is (before (cheaper (omega (arith, h.costs)))))
+      go (is_taken r e is w) (yes l) = rw (lt-ltb (get_or words to 0) cost l) (stays_taken r e is)
       go (is_unreached is w) (no l) =
           let b = bounded in
           let more : cost ≤ get_or words to 0 = omega arith in
           rw (le-ltb (get_or words to 0) cost more)
-          (comes-to-unreached is (omega (arith, new-key, h.costs, old-key 4294967294 (w ∙ refl))))
+          (comes_to_unreached is (omega (arith, new_key, h.costs, old_key 4294967294 (w ∙ refl))))
       go (is_queued r e is w m f x z) (no l) =
           let b = bounded in
           let more : cost ≤ get_or words to 0 = omega arith in
           let less : cost < get_or words to 0 = omega arith in
           rw (le-ltb (get_or words to 0) cost more)
-          (comes-to-queued r e is (before (cheaper (omega (arith, h.costs)))) (omega (arith, new-key, h.costs, old-key e w)))
+          (comes_to_queued r e is (before (cheaper (omega (arith, h.costs)))) (omega (arith, new_key, h.costs, old_key e w)))
       go (is_taken r e is w) (no l) = let b = bounded in absurd (omega arith)
 
   module _ (same : get_or words to 0 ≡ cost) where
@@ -203,28 +203,28 @@ module _ {n : ℕ} {words : List ℕ} {to cost steps step : ℕ} {notes : List �
         go (is_taken r e is w) = let b = bounded in absurd (omega arith)
         go (is_queued r e is w m f x z) =
             let c : e ≡ new_cost h = omega (arith, h.costs) in
-            record { r = r; is = is ∙ rw c; size = m; ends = f; key-is = old-key e w ∙ rw (c, m) refl }
+            record { r = r; is = is ∙ rw c; size = m; ends = f; key-is = old_key e w ∙ rw (c, m) refl }
 
-    pub by-steps : (get_or words (n + to) 0 ≡ steps → ⊥) → Judged h (ltb (get_or words (n + to) 0) steps)
-    by-steps ne = go (dec_lt (get_or words (n + to) 0) steps)
+    pub by_steps : (get_or words (n + to) 0 ≡ steps → ⊥) → Judged h (ltb (get_or words (n + to) 0) steps)
+    by_steps ne = go (dec_lt (get_or words (n + to) 0) steps)
       where
         go : Dec (get_or words (n + to) 0 < steps) → Judged h (ltb (get_or words (n + to) 0) steps)
         go (yes l) =
             rw (lt-ltb (get_or words (n + to) 0) steps l)
-            (stays-as-is level.r (new_cost h) level.is (before (shorter refl (omega (arith, level.size, new-length)))))
+            (stays_as_is level.r (new_cost h) level.is (before (shorter refl (omega (arith, level.size, new_length)))))
         go (no l) =
             let more : steps ≤ get_or words (n + to) 0 = omega arith in
             rw (le-ltb (get_or words (n + to) 0) steps more)
-            (comes-to-queued level.r (new_cost h) level.is
-            (before (shorter refl (omega (arith, level.size, new-length))))
-            (omega (arith, new-key, level.key-is, level.size)))
+            (comes_to_queued level.r (new_cost h) level.is
+            (before (shorter refl (omega (arith, level.size, new_length))))
+            (omega (arith, new_key, level.key-is, level.size)))
 
     module _ (long : get_or words (n + to) 0 ≡ steps) where
       by-numbers : (b : Bool) → Verdict (new_list h) level.r b → Judged h (not b)
       by-numbers true (comes_first f) =
-          comes-to-queued level.r (new_cost h) level.is (before (earlier refl f)) (omega (arith, new-key, level.key-is, level.size))
+          comes_to_queued level.r (new_cost h) level.is (before (earlier refl f)) (omega (arith, new_key, level.key-is, level.size))
       by-numbers false (not_first f) =
-          stays-as-is level.r (new_cost h) level.is (go (by_numbers_total (new_list h) level.r (omega (arith, new-length, level.size))))
+          stays_as_is level.r (new_cost h) level.is (go (by_numbers_total (new_list h) level.r (omega (arith, new_length, level.size))))
         where
           go :
               Compared (new_list h ≡ level.r) (FirstByNumbers (new_list h) level.r) (FirstByNumbers level.r (new_list h))
@@ -345,23 +345,23 @@ module _ {n : ℕ} {words : List ℕ} {to cost steps step : ℕ} {notes : List �
             → Judged h (ltb (get_or words to 0 * 4294967296 + get_or words (n + to) 0) (cost * 4294967296 + steps))
         go (yes e) =
             let differ : get_or words (n + to) 0 ≡ steps → ⊥ = λ z. ne (rw (e, z) refl) in
-            rw (same_low (get_or words to 0) cost (get_or words (n + to) 0) steps e) (by-steps e differ)
+            rw (same_low (get_or words to 0) cost (get_or words (n + to) 0) steps e) (by_steps e differ)
         go (no e) =
-            rw (by_high (get_or words to 0) cost (get_or words (n + to) 0) steps e low (omega (arith, bounded.1))) (by-cost e)
+            rw (by_high (get_or words to 0) cost (get_or words (n + to) 0) steps e low (omega (arith, bounded.1))) (by_cost e)
 
-    pub key-cost : get_or words to 0 * 4294967296 + get_or words (n + to) 0 ≡ cost * 4294967296 + steps → get_or words to 0 ≡ cost
-    key-cost e = omega (arith, bounded.1)
+    pub key_cost : get_or words to 0 * 4294967296 + get_or words (n + to) 0 ≡ cost * 4294967296 + steps → get_or words to 0 ≡ cost
+    key_cost e = omega (arith, bounded.1)
 
-    pub key-steps : get_or words to 0 * 4294967296 + get_or words (n + to) 0 ≡ cost * 4294967296 + steps → get_or words (n + to) 0 ≡ steps
-    key-steps e = omega (arith, bounded.1)
+    pub key_steps : get_or words to 0 * 4294967296 + get_or words (n + to) 0 ≡ cost * 4294967296 + steps → get_or words (n + to) 0 ≡ steps
+    key_steps e = omega (arith, bounded.1)
 
   -- what is known then: nothing has changed
-  pub relaxed-old :
+  pub relaxed_old :
       {r : List ℕ}
       → Judged h true
       → Noted (length h.t.initial) n h.stepping.status h.p r
       → Noting h.t n words r (left_state h) (h.k + 1) h.p h.c
-  relaxed-old (old-stays searching) noted =
+  relaxed_old (old_stays searching) noted =
       record {
         stepping =
             record {
@@ -376,13 +376,13 @@ module _ {n : ℕ} {words : List ℕ} {to cost steps step : ℕ} {notes : List �
       }
 
   -- or the new list stands there
-  pub may-queue : Roomy n words → Judged h false → MayQueue n words to cost steps
-  may-queue roomy (new-comes not_taken improves comes) =
+  pub may_queue : Roomy n words → Judged h false → MayQueue n words to cost steps
+  may_queue roomy (new_comes not_taken improves comes) =
       record { roomy = roomy; queue = h.stepping.queue; there = h.there; sooner = comes }
 
   module _ {after : List ℕ} (now : QueuedNow n to cost steps step words after) where
-    pub relaxed-zeros : Judged h false → Zeros n words after
-    relaxed-zeros (new-comes not_taken improves comes) = record { stay = λ s l z. go s l z (ℕ_discrete s to) here }
+    pub relaxed_zeros : Judged h false → Zeros n words after
+    relaxed_zeros (new_comes not_taken improves comes) = record { stay = λ s l z. go s l z (ℕ_discrete s to) here }
       where
         go :
             (s : ℕ)
@@ -396,17 +396,17 @@ module _ {n : ℕ} {words : List ℕ} {to cost steps step : ℕ} {notes : List �
         go s l z (yes q) (is_queued r e is w m f x y) = let zero : get_or words to 0 ≡ 0 = rw q at z in absurd (omega arith)
         go s l z (yes q) (is_taken r e is w) = absurd (not_taken r e is)
 
-    pub relaxed-new :
+    pub relaxed_new :
         {r : List ℕ}
         → Judged h false
         → Noted (length h.t.initial) n h.stepping.status h.p r
         → Noting h.t n after r (left_state h) (h.k + 1) h.p h.c
-    relaxed-new (new-comes not_taken improves comes) noted =
+    relaxed_new (new_comes not_taken improves comes) noted =
         record {
           stepping =
               record {
                 status = update h.stepping.status to (queued (new_list h) (new_cost h));
-                holds = holds-changed v h.ground.states h.there change none now.elsewhere h.stepping.holds says;
+                holds = holds_changed v h.ground.states h.there change none now.elsewhere h.stepping.holds says;
                 queue = now.queue;
                 searching =
                     queues h.t h.ground.passes h.stepping.searching place h.p h.c h.stepping.is_taken h.applies not_taken
@@ -438,7 +438,7 @@ module _ {n : ℕ} {words : List ℕ} {to cost steps step : ℕ} {notes : List �
             → a < n
             → h.stepping.status (state_of (length h.t.initial) a) ≡ taken p c
             → after-status (state_of (length h.t.initial) a) ≡ taken p c
-        still = still-taken v h.ground.states h.there change none now.elsewhere
+        still = still_taken v h.ground.states h.there change none now.elsewhere
 
         was :
             (b : ℕ) (q : List ℕ) (d : ℕ)
@@ -450,7 +450,7 @@ module _ {n : ℕ} {words : List ℕ} {to cost steps step : ℕ} {notes : List �
         was b q d l is (no e) =
             sym
             (change.elsewhere (state_of (length h.t.initial) b) (state_bits (length h.t.initial) b)
-            (other-state (length h.t.initial) h.ground.states to b h.there l e))
+            (other_state (length h.t.initial) h.ground.states to b h.there l e))
             ∙ is
 
         fresh :
@@ -466,14 +466,14 @@ module _ {n : ℕ} {words : List ℕ} {to cost steps step : ℕ} {notes : List �
             let was =
             sym
             (change.elsewhere (state_of (length h.t.initial) x) (state_bits (length h.t.initial) x)
-            (other-state (length h.t.initial) h.ground.states to x h.there l q))
+            (other_state (length h.t.initial) h.ground.states to x h.there l q))
             ∙ is in
             omega (arith, h.stepping.fresh x o e l was)
 
         says : Says (length h.t.initial) n after-status after to (queued (new_list h) (new_cost h))
         says =
-            says_queued {p = new_list h} (now.cost_now ∙ h.costs) (now.steps_now ∙ sym new-length)
+            says_queued {p = new_list h} (now.cost_now ∙ h.costs) (now.steps_now ∙ sym new_length)
             (by_step h.from h.k h.p h.c h.from_state h.number (still h.from h.p h.c h.from_state h.stepping.is_taken)
             (now.step_now ∙ h.last) refl)
             (omega (arith, bounded.0, h.costs))
-            (omega (arith, bounded.1, new-length))
+            (omega (arith, bounded.1, new_length))

@@ -12,16 +12,16 @@ use Rattle.task.specs.declared.Head.{Head}
 use Rattle.task.specs.Table.{Task}
 use Rattle.task.specs.Run.{goal_holds}
 use Rattle.state_queue.specs.Inner.Queue.{winner, Roomy, Queue, queued as Waits-there}
-use Rattle.state_queue.proofs.Changes.{root-state}
+use Rattle.state_queue.proofs.Changes.{root_state}
 use Rattle.cheapest_plan.specs.Cheapest.{no_plan, cheapest}
 use Rattle.cheapest_plan.specs.Inner.States.{Bits, state_of}
 use Rattle.cheapest_plan.specs.Inner.Search.{Status, unreached, queued, Searching, Changed}
 use Rattle.cheapest_plan.specs.Inner.Tables.{at_start, Says, says_unreached, says_queued, Holds, Ground, Zeros}
 use Rattle.cheapest_plan.specs.Inner.Visits.{TaskIn, Known, Begun, GoalReady, Visitable, Visited, at_goal, passed, Visits, Searchable, SearchEnd, no_end, first_end}
 use Rattle.cheapest_plan.proofs.States.{state_bits}
-use Rattle.cheapest_plan.proofs.Search.{empty-queue}
+use Rattle.cheapest_plan.proofs.Search.{empty_queue}
 use Rattle.cheapest_plan.proofs.Searching.{begun}
-use Rattle.cheapest_plan.proofs.Holding.{update, updated, other-state}
+use Rattle.cheapest_plan.proofs.Holding.{update, updated, other_state}
 use Rattle.cheapest_plan.proofs.Visiting.{none-queued, queued_word}
 
 -- how many of the states below n are not taken
@@ -42,17 +42,17 @@ one_less : (a b : ℕ) → (a ≡ 0 → ⊥) → b ≡ 0 → cond (eqb b 0) 0 1 
 one_less a b ne e = rw (eq-eqb b 0 e, ne_eqb a 0 ne) (omega arith)
 
 module _ (before after : List ℕ) where
-  untaken-no-more : (n : ℕ) → ((s : ℕ) → s < n → get_or before s 0 ≡ 0 → get_or after s 0 ≡ 0) → untaken after n ≤ untaken before n
+  untaken_no_more : (n : ℕ) → ((s : ℕ) → s < n → get_or before s 0 ≡ 0 → get_or after s 0 ≡ 0) → untaken after n ≤ untaken before n
   unfolding untaken
-  untaken-no-more zero stay = omega arith
-  untaken-no-more (suc n) stay =
+  untaken_no_more zero stay = omega arith
+  untaken_no_more (suc n) stay =
       omega (
         arith,
-        untaken-no-more n (λ s l z. stay s (omega arith) z),
+        untaken_no_more n (λ s l z. stay s (omega arith) z),
         one_no_more (get_or before n 0) (get_or after n 0) (stay n (omega arith)),
       )
 
-  untaken-falls :
+  untaken_falls :
       (n : ℕ)
       → ((s : ℕ) → s < n → get_or before s 0 ≡ 0 → get_or after s 0 ≡ 0)
       → (s : ℕ)
@@ -61,18 +61,18 @@ module _ (before after : List ℕ) where
       → get_or after s 0 ≡ 0
       → untaken after n < untaken before n
   unfolding untaken
-  untaken-falls zero stay s l ne z = absurd (omega arith)
-  untaken-falls (suc n) stay s l ne z = go (ℕ_discrete s n) (λ m. untaken-falls n (λ x k y. stay x (omega arith) y) s m ne z)
+  untaken_falls zero stay s l ne z = absurd (omega arith)
+  untaken_falls (suc n) stay s l ne z = go (ℕ_discrete s n) (λ m. untaken_falls n (λ x k y. stay x (omega arith) y) s m ne z)
     where
       go : Dec (s ≡ n) → (s < n → untaken after n < untaken before n) → untaken after (suc n) < untaken before (suc n)
       go (yes q) further =
           omega
-          (arith, untaken-no-more n (λ x k y. stay x (omega arith) y), one_less (get_or before n 0) (get_or after n 0) (rw q at ne) (rw q at z))
+          (arith, untaken_no_more n (λ x k y. stay x (omega arith) y), one_less (get_or before n 0) (get_or after n 0) (rw q at ne) (rw q at z))
       go (no q) further = omega (arith, further (omega arith), one_no_more (get_or before n 0) (get_or after n 0) (stay n (omega arith)))
 
 -- the first state of the queue, and the goal's test, once lists of the same length stand there
 pub state_below : {t : Task} {n s : ℕ} {words : List ℕ} → Known t n words → s ≡ winner words n 1 → 0 < n → s < n
-state_below k first some = rw first (root-state k.queue some)
+state_below k first some = rw first (root_state k.queue some)
 
 pub goal_ready_on :
     {h : Head} {f state scratch state' scratch' : List ℕ}
@@ -99,23 +99,23 @@ pub round_less :
     → Waits-there (get_or before s 0) ≡ true
     → untaken after n < untaken before n
 round_less {n = n} {s = s} {before = before} {after = after} v no_goal l w =
-    untaken-falls before after n v.zeros.stay s l (queued_word (get_or before s 0) w).0 (v.gone no_goal)
+    untaken_falls before after n v.zeros.stay s l (queued_word (get_or before s 0) w).0 (v.gone no_goal)
 
 -- the begin
 module _ {h : Head} {f e o : List ℕ} {n start : ℕ} (v : Searchable h f e o n start) where
-  at-initial : v.t.initial ≡ state_of (length v.t.initial) start
-  at-initial = v.initial ∙ ap (λ (k : ℕ). state_of k start) (sym v.tables.variables)
+  at_initial : v.t.initial ≡ state_of (length v.t.initial) start
+  at_initial = v.initial ∙ ap (λ (k : ℕ). state_of k start) (sym v.tables.variables)
 
-  pub begun-known : {words : List ℕ} → Begun n start words → Known v.t n words
-  begun-known {words} b =
+  pub begun_known : {words : List ℕ} → Begun n start words → Known v.t n words
+  begun_known {words} b =
       record {
         status = update (λ x. unreached) start (queued [] 0);
         last = v.t.initial;
         holds = record { at = λ s l. go s l (ℕ_discrete s start) };
         queue = b.queue;
         searching =
-            begun v.t v.ground.passes v.t.initial (ap (update (λ x. unreached) start (queued [] 0)) at-initial ∙ change.here)
-            (λ x bits ne. change.elsewhere x bits (λ q. ne (q ∙ sym at-initial)));
+            begun v.t v.ground.passes v.t.initial (ap (update (λ x. unreached) start (queued [] 0)) at_initial ∙ change.here)
+            (λ x bits ne. change.elsewhere x bits (λ q. ne (q ∙ sym at_initial)));
       }
     where
       change :
@@ -135,7 +135,7 @@ module _ {h : Head} {f e o : List ℕ} {n start : ℕ} (v : Searchable h f e o n
           (says_queued {p = []} {c = 0} b.cost (b.steps start v.there) (at_start refl (b.lasts start v.there)) (omega arith) (omega arith))
       go s l (no q) =
           rw (change.elsewhere (state_of (length v.t.initial) s) (state_bits (length v.t.initial) s)
-          (other-state (length v.t.initial) v.ground.states start s v.there l q))
+          (other_state (length v.t.initial) v.ground.states start s v.there l q))
           (says_unreached (b.others s l q))
 
   module _ {words : List ℕ} (known : Known v.t n words) {s : ℕ} (first : s ≡ winner words n 1) where
@@ -155,8 +155,8 @@ module _ {h : Head} {f e o : List ℕ} {n start : ℕ} (v : Searchable h f e o n
       round-goal e l (passed k) = absurd (let x : ◌≡◌ {A = ℕ} 0 1 = cc in omega arith)
 
     -- the end
-    pub search-none : Roomy n words → Waits-there (get_or words s 0) ≡ false → SearchEnd v.t n words n
-    search-none roomy e =
+    pub search_none : Roomy n words → Waits-there (get_or words s 0) ≡ false → SearchEnd v.t n words n
+    search_none roomy e =
         no_end refl
-        (empty-queue v.t v.ground.passes known.searching
+        (empty_queue v.t v.ground.passes known.searching
         (none-queued known.holds v.ground.states known.queue roomy.some (ap (λ (x : ℕ). Waits-there (get_or words x 0)) (sym first) ∙ e)))

@@ -17,8 +17,8 @@ use Rattle.cheapest_plan.specs.Inner.Leads.{next, Leads, stays, goes}
 use Rattle.cheapest_plan.specs.Inner.States.{Bits}
 use Rattle.cheapest_plan.specs.Inner.Search.{NoLater, equal, before, KeyLess, less_cost, less_steps, Status, queued, taken, Has, waits, stands, Reached, Searching, LeastKey}
 use Rattle.cheapest_plan.proofs.Order.{Compared, sooner, alike, later, by_numbers_length, before_total, before_behind, no_later_transitive}
-use Rattle.cheapest_plan.proofs.Leads.{leads-more, leads_bits, below_operators}
-use Rattle.cheapest_plan.proofs.Cheapest.{found-is-cheapest, none-is-cheapest}
+use Rattle.cheapest_plan.proofs.Leads.{leads_more, leads_bits, below_operators}
+use Rattle.cheapest_plan.proofs.Cheapest.{found_is_cheapest, none_is_cheapest}
 
 -- orders
 no_later_behind :
@@ -111,8 +111,8 @@ longer : (front : List ℕ) (o : ℕ) (rest q : List ℕ) → front ++ (o ∷ re
 longer front o rest q e = rw (← e) (omega (arith, length-append front (o ∷ rest)))
 
 module _ (t : Task) (passes : Checked t) where
-  pub start-bits : Bits (length t.initial) t.initial
-  start-bits = record { size = refl; bits = passes.initial_bits }
+  pub start_bits : Bits (length t.initial) t.initial
+  start_bits = record { size = refl; bits = passes.initial_bits }
 
   module _ {status : List ℕ → Status} {last : List ℕ} (searching : Searching t status last (length t.operators)) where
     -- what a step leads to from a state that is taken, all operators of which were stepped
@@ -130,7 +130,7 @@ module _ (t : Task) (passes : Checked t) where
         (no_later_behind (searching.best s bits p e is front c l) o (charge t s o))
 
     -- from a state on the way, reached by a list that is no later than the front
-    meets-from :
+    meets_from :
         (front : List ℕ) {at rest x : List ℕ} {c d : ℕ}
         → Leads t t.initial front at c
         → Reached (status at) c front
@@ -139,14 +139,14 @@ module _ (t : Task) (passes : Checked t) where
         → front ++ rest ≡ q
         → c + d ≡ f
         → Meets (length t.initial) status x q f
-    meets-from front l r (stays {s = s} {to = to} there z) q f whole sum =
+    meets_from front l r (stays {s = s} {to = to} there z) q f whole sum =
         meets_end s to q front r there (sym (append-nil front) ∙ whole) (omega arith)
-    meets-from front {c = c} l r (goes {s = s} {to = to} {numbers = rest} {o = o} {d = e} a m z) q f whole sum =
+    meets_from front {c = c} l r (goes {s = s} {to = to} {numbers = rest} {o = o} {d = e} a m z) q f whole sum =
         go r.has
-        (λ g. meets-from (front ++ (o ∷ [])) (leads-more l o a) g m q f (append_assoc front (o ∷ []) rest ∙ whole) (omega arith))
+        (λ g. meets_from (front ++ (o ∷ [])) (leads_more l o a) g m q f (append_assoc front (o ∷ []) rest ∙ whole) (omega arith))
       where
         bits : Bits (length t.initial) s
-        bits = leads_bits l start-bits
+        bits = leads_bits l start_bits
 
         go :
             Has (status s) r.numbers r.cost
@@ -156,10 +156,10 @@ module _ (t : Task) (passes : Checked t) where
         go (stands is) further = further (followed s front c bits l r.numbers r.cost is o a)
 
     pub meets : (x q : List ℕ) (d : ℕ) → Leads t t.initial q x d → Meets (length t.initial) status x q d
-    meets x q d l = meets-from [] (stays refl refl) searching.start l q d refl (omega arith)
+    meets x q d l = meets_from [] (stays refl refl) searching.start l q d refl (omega arith)
 
     -- the queued state with the least key has its best list
-    pub least-key-best :
+    pub least_key_best :
         (s : List ℕ)
         → (p : List ℕ) (c : ℕ)
         → status s ≡ queued p c
@@ -167,7 +167,7 @@ module _ (t : Task) (passes : Checked t) where
         → (q : List ℕ) (d : ℕ)
         → Leads t t.initial q s d
         → NoLater c p d q
-    least-key-best s p c is least q d l = go (meets s q d l)
+    least_key_best s p c is least q d l = go (meets s q d l)
       where
         go : Meets (length t.initial) status s q d → NoLater c p d q
         go (at_end e n) =
@@ -177,7 +177,7 @@ module _ (t : Task) (passes : Checked t) where
         go (not_at_all e) = let z : ◌≡◌ {A = ℕ} 0 1 = cc in absurd (omega arith)
 
     -- a queued goal state of the least key, whose list is no later than those of all queued goal states, ends the cheapest plan
-    pub end-is-cheapest :
+    pub end_is_cheapest :
         (s : List ℕ)
         → Bits (length t.initial) s
         → (p : List ℕ) (c : ℕ)
@@ -186,8 +186,8 @@ module _ (t : Task) (passes : Checked t) where
         → LeastKey (length t.initial) status p c
         → ((y : List ℕ) → Bits (length t.initial) y → (r : List ℕ) (e : ℕ) → status y ≡ queued r e → goal_holds t y ≡ true → NoLater c p e r)
         → cheapest t ≡ plan_of p c
-    end-is-cheapest s bits p c is goal least first =
-        found-is-cheapest t passes (searching.leads s bits p c (waits is)) goal (λ q x d l g. go q x d l g (meets x q d l))
+    end_is_cheapest s bits p c is goal least first =
+        found_is_cheapest t passes (searching.leads s bits p c (waits is)) goal (λ q x d l g. go q x d l g (meets x q d l))
       where
         go :
             (q x : List ℕ) (d : ℕ)
@@ -195,16 +195,16 @@ module _ (t : Task) (passes : Checked t) where
             → goal_holds t x ≡ true
             → Meets (length t.initial) status x q d
             → NoLater c p d q
-        go q x d l g (at_end {r = r} {e = e} w n) = no_later_transitive (first x (leads_bits l start-bits) r e w g) n
+        go q x d l g (at_end {r = r} {e = e} w n) = no_later_transitive (first x (leads_bits l start_bits) r e w g) n
         go q x d l g (on_the_way {y = y} {r = r} {e = e} b w k) = key_before (least.none_less y b r e w) k
         go q x d l g (not_at_all {r = r} {e = e} w) =
-            absurd (false≢true (sym (searching.no_goal x (leads_bits l start-bits) r e w) ∙ g))
+            absurd (false≢true (sym (searching.no_goal x (leads_bits l start_bits) r e w) ∙ g))
 
     -- where nothing is queued there is no plan
-    pub empty-queue :
+    pub empty_queue :
         ((y : List ℕ) → Bits (length t.initial) y → (r : List ℕ) (e : ℕ) → status y ≡ queued r e → ⊥)
         → cheapest t ≡ no_plan
-    empty-queue empty = none-is-cheapest t passes (λ q x d l g. go q x d l g (meets x q d l))
+    empty_queue empty = none_is_cheapest t passes (λ q x d l g. go q x d l g (meets x q d l))
       where
         go :
             (q x : List ℕ) (d : ℕ)
@@ -212,7 +212,7 @@ module _ (t : Task) (passes : Checked t) where
             → goal_holds t x ≡ true
             → Meets (length t.initial) status x q d
             → ⊥
-        go q x d l g (at_end {r = r} {e = e} w n) = empty x (leads_bits l start-bits) r e w
+        go q x d l g (at_end {r = r} {e = e} w n) = empty x (leads_bits l start_bits) r e w
         go q x d l g (on_the_way {y = y} {r = r} {e = e} b w k) = empty y b r e w
         go q x d l g (not_at_all {r = r} {e = e} w) =
-            false≢true (sym (searching.no_goal x (leads_bits l start-bits) r e w) ∙ g)
+            false≢true (sym (searching.no_goal x (leads_bits l start_bits) r e w) ∙ g)

@@ -14,9 +14,9 @@ use Rattle.cheapest_plan.specs.Inner.Leads.{next, Leads, stays}
 use Rattle.cheapest_plan.specs.Inner.States.{Bits, code}
 use Rattle.cheapest_plan.specs.Inner.Search.{NoLater, equal, Status, unreached, queued, taken, Has, waits, stands, Reached, Searching, Changed, LeastKey}
 use Rattle.cheapest_plan.proofs.Order.{no_later_transitive}
-use Rattle.cheapest_plan.proofs.Leads.{leads-more, next_bits, below_operators}
+use Rattle.cheapest_plan.proofs.Leads.{leads_more, next_bits, below_operators}
 use Rattle.cheapest_plan.proofs.States.{code_tells}
-use Rattle.cheapest_plan.proofs.Search.{has_one, start-bits, least-key-best}
+use Rattle.cheapest_plan.proofs.Search.{has_one, start_bits, least_key_best}
 
 -- two states are the same or not
 pub same_state : (v : ℕ) (x y : List ℕ) → Bits v x → Bits v y → Dec (x ≡ y)
@@ -43,7 +43,7 @@ module _ (t : Task) (passes : Checked t) where
       → Searching t status last (length t.operators)
   begun {status} last first others =
       record {
-        leads = λ s bits p c h. at s p c (same_state (length t.initial) s t.initial bits (start-bits t passes)) bits h;
+        leads = λ s bits p c h. at s p c (same_state (length t.initial) s t.initial bits (start_bits t passes)) bits h;
         best = λ s bits p c e q d l. absurd (none s p c bits e);
         no_goal = λ s bits p c e. absurd (none s p c bits e);
         start = record { numbers = []; cost = 0; has = waits first; no_later = equal refl refl };
@@ -62,7 +62,7 @@ module _ (t : Task) (passes : Checked t) where
       at s p c (no n) bits h = absurd (not_unreached (others s bits n) h)
 
       none : (s p : List ℕ) (c : ℕ) → Bits (length t.initial) s → status s ≡ taken p c → ⊥
-      none s p c bits e = go (same_state (length t.initial) s t.initial bits (start-bits t passes))
+      none s p c bits e = go (same_state (length t.initial) s t.initial bits (start_bits t passes))
         where
           go : Dec (s ≡ t.initial) → ⊥
           go (yes f) = not_both (ap status f ∙ first) e
@@ -74,8 +74,8 @@ module _
     (change : Changed v status after y now) (place : Bits v y) (has : Has now p c)
     (improves : (r : List ℕ) (e : ℕ) → Has (status y) r e → NoLater c p e r)
   where
-    still-reached : {d : ℕ} {q : List ℕ} (x : List ℕ) → Bits v x → Reached (status x) d q → Reached (after x) d q
-    still-reached {d} {q} x bits r = go (same_state v x y bits place)
+    still_reached : {d : ℕ} {q : List ℕ} (x : List ℕ) → Bits v x → Reached (status x) d q → Reached (after x) d q
+    still_reached {d} {q} x bits r = go (same_state v x y bits place)
       where
         go : Dec (x ≡ y) → Reached (after x) d q
         go (yes e) =
@@ -104,7 +104,7 @@ module _ (t : Task) (passes : Checked t) {status : List ℕ → Status} where
           leads = λ x bits q d h. leads x bits q d h (same x bits);
           best = λ x bits q d e. best x bits q d e (same x bits);
           no_goal = λ x bits q d e. no_goal x bits q d e (same x bits);
-          start = still t.initial (start-bits t passes) searching.start;
+          start = still t.initial (start_bits t passes) searching.start;
           follows = λ x bits q d e o a l. follows x bits q d e o a l (same x bits);
         }
       where
@@ -113,7 +113,7 @@ module _ (t : Task) (passes : Checked t) {status : List ℕ → Status} where
 
         still : {d : ℕ} {q : List ℕ} (x : List ℕ) → Bits (length t.initial) x → Reached (status x) d q → Reached (after x) d q
         still x bits r =
-            still-reached change place (stands refl)
+            still_reached change place (stands refl)
             (λ r e h. let one = has_one (waits is) h in equal one.1 one.0) x bits r
 
         leads :
@@ -139,7 +139,7 @@ module _ (t : Task) (passes : Checked t) {status : List ℕ → Status} where
             → NoLater d q e r
         best x bits q d f (yes e) r b l =
             let one = has_one (stands (ap after e ∙ change.here)) (stands f) in
-            rw (← one.0, ← one.1) (least-key-best t passes searching s p c is least r b (rw e at l))
+            rw (← one.0, ← one.1) (least_key_best t passes searching s p c is least r b (rw e at l))
         best x bits q d f (no n) r b l = searching.best x bits q d (sym (change.elsewhere x bits n) ∙ f) r b l
 
         no_goal :
@@ -227,28 +227,28 @@ module _
         go (yes f) = absurd (not_both (ap after f ∙ change.here) e)
         go (no n) = sym (change.elsewhere x bits n) ∙ e
 
-    leads-there :
+    leads_there :
         (x : List ℕ)
         → Bits (length t.initial) x
         → (q : List ℕ) (d : ℕ)
         → Has (after x) q d
         → Dec (x ≡ y)
         → Leads t t.initial q x d
-    leads-there x bits q d h (yes e) =
+    leads_there x bits q d h (yes e) =
         let one = has_one (waits (ap after e ∙ change.here)) h in
         rw (e, ← one.0, ← one.1) list
-    leads-there x bits q d h (no n) = searching.leads x bits q d (rw (change.elsewhere x bits n) at h)
+    leads_there x bits q d h (no n) = searching.leads x bits q d (rw (change.elsewhere x bits n) at h)
 
     pub requeued : Searching t after last k
     requeued =
         record {
-          leads = λ x bits q d h. leads-there x bits q d h (same_state (length t.initial) x y bits place);
+          leads = λ x bits q d h. leads_there x bits q d h (same_state (length t.initial) x y bits place);
           best = λ x bits q d e. searching.best x bits q d (was x bits q d e);
           no_goal = λ x bits q d e. searching.no_goal x bits q d (was x bits q d e);
-          start = still-reached change place (waits refl) better t.initial (start-bits t passes) searching.start;
+          start = still_reached change place (waits refl) better t.initial (start_bits t passes) searching.start;
           follows =
               λ x bits q d e o a l.
-              still-reached change place (waits refl) better (next t x o) (next_bits t o bits)
+              still_reached change place (waits refl) better (next t x o) (next_bits t o bits)
               (searching.follows x bits q d (was x bits q d e) o a l);
         }
 
@@ -257,18 +257,18 @@ module _
     (searching : Searching t status s k) (place : Bits (length t.initial) s)
     (p : List ℕ) (c : ℕ) (is : status s ≡ taken p c) (a : applicable t s k ≡ true)
   where
-    to-there : Leads t t.initial (p ++ (k ∷ [])) (next t s k) (c + charge t s k)
-    to-there = leads-more (searching.leads s place p c (stands is)) k a
+    to_there : Leads t t.initial (p ++ (k ∷ [])) (next t s k) (c + charge t s k)
+    to_there = leads_more (searching.leads s place p c (stands is)) k a
 
     -- as it is where the state was taken
-    pub taken-before : (r : List ℕ) (e : ℕ) → status (next t s k) ≡ taken r e → Searching t status s (k + 1)
-    taken-before r e there =
+    pub taken_before : (r : List ℕ) (e : ℕ) → status (next t s k) ≡ taken r e → Searching t status s (k + 1)
+    taken_before r e there =
         kept t passes searching place p c is
         (record {
           numbers = r;
           cost = e;
           has = stands there;
-          no_later = searching.best (next t s k) (next_bits t k place) r e there (p ++ (k ∷ [])) (c + charge t s k) to-there;
+          no_later = searching.best (next t s k) (next_bits t k place) r e there (p ++ (k ∷ [])) (c + charge t s k) to_there;
         })
 
     -- the state is queued with the new list: it was not reached, or queued with a list that is later
@@ -279,7 +279,7 @@ module _
         → Changed (length t.initial) status after (next t s k) (queued (p ++ (k ∷ [])) (c + charge t s k))
         → Searching t after s (k + 1)
     queues {after} not_taken improves change =
-        kept t passes (requeued t passes searching (next t s k) (next_bits t k place) to-there not_taken improves change) place p c
+        kept t passes (requeued t passes searching (next t s k) (next_bits t k place) to_there not_taken improves change) place p c
         (change.elsewhere s place other ∙ is)
         (record { numbers = p ++ (k ∷ []); cost = c + charge t s k; has = waits change.here; no_later = equal refl refl })
       where

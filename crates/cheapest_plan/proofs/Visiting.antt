@@ -19,23 +19,23 @@ use Rattle.task.specs.Tree.{formula_of, effect_of}
 use Rattle.task.specs.Run.{goal_holds, operator_of, applicable, effect_of_operator}
 use Rattle.task.specs.Inner.Values.{bit, Values}
 use Rattle.task.proofs.Values.{values_none}
-use Rattle.task.proofs.Bounded.{length-upto, getD-upto}
+use Rattle.task.proofs.Bounded.{length_upto, getD_upto}
 use Rattle.evaluating.specs.Inner.Values.{Valuable, Valued, rows_of}
 use Rattle.state_codes.specs.Inner.Masks.{Masked, next_code, RowMasks, Maskable}
-use Rattle.state_codes.proofs.Meaning.{row-masked, next-below, next-state}
+use Rattle.state_codes.proofs.Meaning.{row_masked, next_below, next_state}
 use Rattle.state_queue.specs.Inner.Queue.{key, queue_cost, winner, Roomy, Queue, Waits, Played, queued as Waits-there}
-use Rattle.state_queue.proofs.Changes.{root-state, root-least, changed-waits}
+use Rattle.state_queue.proofs.Changes.{root_state, root_least, changed_waits}
 use Rattle.state_queue.proofs.Keys.{cost_taken, cost_else}
 use Rattle.cheapest_plan.specs.Inner.Leads.{next}
 use Rattle.cheapest_plan.specs.Inner.States.{Bits, code, state_of}
 use Rattle.cheapest_plan.specs.Inner.Search.{KeyLess, less_cost, less_steps, Status, queued, taken, Has, waits, stands, Searching, Changed, LeastKey}
 use Rattle.cheapest_plan.specs.Inner.Tables.{Ends, at_start, by_step, most_cost, Says, says_taken, Holds, Ground, Stepping, Elsewhere, Zeros}
 use Rattle.cheapest_plan.specs.Inner.Visits.{TaskIn, Stage, SteppedTo, Expandable, Known, GoalReady, GoalTold, TakenNow, Visitable, Visited, at_goal, passed, Visits}
-use Rattle.cheapest_plan.proofs.Leads.{leads-once}
+use Rattle.cheapest_plan.proofs.Leads.{leads_once}
 use Rattle.cheapest_plan.proofs.States.{state_bits, code_below, state_of_code}
 use Rattle.cheapest_plan.proofs.Search.{has_one}
 use Rattle.cheapest_plan.proofs.Searching.{taking}
-use Rattle.cheapest_plan.proofs.Holding.{update, updated, other-state, Stands, is_unreached, is_queued, is_taken, stands_at, ends_on, still-taken, holds-changed}
+use Rattle.cheapest_plan.proofs.Holding.{update, updated, other_state, Stands, is_unreached, is_queued, is_taken, stands_at, ends_on, still_taken, holds_changed}
 use Rattle.cheapest_plan.proofs.Relaxing.{key_there}
 
 -- the goal's test
@@ -45,8 +45,8 @@ told_bit true = refl
 told_bit false = refl
 
 module _ {h : Head} {f state scratch : List ℕ} (ready : GoalReady h f state scratch) (s : ℕ) where
-  pub goal-valuable : {now : List ℕ} → now ≡ state_of (length state) s → Valuable f 0 h.formulas now scratch
-  goal-valuable {now} e =
+  pub goal_valuable : {now : List ℕ} → now ≡ state_of (length state) s → Valuable f 0 h.formulas now scratch
+  goal_valuable {now} e =
       let size : length now ≡ h.variables = ap length e ∙ (state_bits (length state) s).size ∙ ready.size in
       record {
         there = ready.there;
@@ -57,9 +57,9 @@ module _ {h : Head} {f state scratch : List ℕ} (ready : GoalReady h f state sc
         below = values_none now (rows_of h.formulas f) scratch;
       }
 
-  pub goal-found :
+  pub goal_found :
       {now after : List ℕ} → now ≡ state_of (length state) s → Valued f h.formulas now scratch after → GoalTold h f s after (eqb (get_or after h.goal 0) 1)
-  goal-found {now} {after} e v =
+  goal_found {now} {after} e v =
       let at : now ≡ state_of h.variables s = e ∙ ap (λ (k : ℕ). state_of k s) ready.size in
       record {
         told =
@@ -74,9 +74,9 @@ module _ {n s : ℕ} {words : List ℕ} (roomy : Roomy n words) (queue : Queue w
   other : (j : ℕ) → (j ≡ s → ⊥) → get_or (set words s 0) j 0 ≡ get_or words j 0
   other j ne = get_or-set_other words s j 0 0 (λ z. ne (omega arith))
 
-  pub take-waits : Waits (set words s 0) n s
-  take-waits =
-      changed-waits
+  pub take_waits : Waits (set words s 0) n s
+  take_waits =
+      changed_waits
       (record {
         costs = λ x l ne. other x ne;
         steps = λ x l ne. other (n + x) (λ z. omega arith);
@@ -84,8 +84,8 @@ module _ {n s : ℕ} {words : List ℕ} (roomy : Roomy n words) (queue : Queue w
       })
       queue below
 
-  pub taken-now : {after : List ℕ} → Played n (set words s 0) after → TakenNow n s words after
-  taken-now p =
+  pub taken_now : {after : List ℕ} → Played n (set words s 0) after → TakenNow n s words after
+  taken_now p =
       record {
         queue = p.queue;
         word = p.front s (omega arith) ∙ get_or-set_same words s 0 0 (omega (arith, roomy));
@@ -122,8 +122,8 @@ pub record QueuedAt (v n : ℕ) (status : List ℕ → Status) (words : List ℕ
   pub few : length p ≤ 1024
 
 module _ {v n : ℕ} {status : List ℕ → Status} {words : List ℕ} (h : Holds v n status words) where
-  pub queued-at : (s : ℕ) → s < n → (p : List ℕ) (c : ℕ) → status (state_of v s) ≡ queued p c → QueuedAt v n status words s p c
-  queued-at s l p c is = go (stands_at (status (state_of v s)) (h.at s l))
+  pub queued_at : (s : ℕ) → s < n → (p : List ℕ) (c : ℕ) → status (state_of v s) ≡ queued p c → QueuedAt v n status words s p c
+  queued_at s l p c is = go (stands_at (status (state_of v s)) (h.at s l))
     where
       go : Stands v n status words s (status (state_of v s)) → QueuedAt v n status words s p c
       go (is_unreached e w) = let z : ◌≡◌ {A = ℕ} 0 1 = cc in absurd (omega arith)
@@ -145,29 +145,29 @@ module _ {v n : ℕ} {status : List ℕ → Status} {words : List ℕ} (h : Hold
     pub is : status (state_of v s) ≡ queued p c
     pub at : QueuedAt v n status words s p c
 
-  pub waiting-at : (s : ℕ) → s < n → Waits-there (get_or words s 0) ≡ true → IsQueued s
-  waiting-at s l e = go (stands_at (status (state_of v s)) (h.at s l))
+  pub waiting_at : (s : ℕ) → s < n → Waits-there (get_or words s 0) ≡ true → IsQueued s
+  waiting_at s l e = go (stands_at (status (state_of v s)) (h.at s l))
     where
       go : Stands v n status words s (status (state_of v s)) → IsQueued s
       go (is_unreached f w) = absurd (omega (arith, queued_word (get_or words s 0) e))
       go (is_taken q d f w) = absurd ((queued_word (get_or words s 0) e).0 w)
-      go (is_queued q d f w m g x y) = record { p = q; c = d; is = f; at = queued-at s l q d f }
+      go (is_queued q d f w m g x y) = record { p = q; c = d; is = f; at = queued_at s l q d f }
 
   module _ (size : n ≡ 2 ^ v) where
     -- by states in place of codes
-    pub queued-state : (y : List ℕ) → Bits v y → (p : List ℕ) (c : ℕ) → status y ≡ queued p c → (code y < n) × QueuedAt v n status words (code y) p c
-    queued-state y bits p c is =
+    pub queued_state : (y : List ℕ) → Bits v y → (p : List ℕ) (c : ℕ) → status y ≡ queued p c → (code y < n) × QueuedAt v n status words (code y) p c
+    queued_state y bits p c is =
         let below : code y < n = rw size (code_below v y bits) in
-        (below, queued-at (code y) below p c (ap status (state_of_code v y bits) ∙ is))
+        (below, queued_at (code y) below p c (ap status (state_of_code v y bits) ∙ is))
 
     module _ (queue : Queue words n) (some : 0 < n) where
       -- the root has the least key
       pub least-key : (s : ℕ) → s ≡ winner words n 1 → (p : List ℕ) (c : ℕ) → QueuedAt v n status words s p c → LeastKey v status p c
-      least-key s root p c first = record { none_less = λ y bits r e is k. go y r e (queued-state y bits r e is) k }
+      least-key s root p c first = record { none_less = λ y bits r e is k. go y r e (queued_state y bits r e is) k }
         where
           go : (y r : List ℕ) (e : ℕ) → (code y < n) × QueuedAt v n status words (code y) r e → KeyLess e r c p → ⊥
           go y r e (l, q) k =
-              let a = root-least queue some (code y) l in
+              let a = root_least queue some (code y) l in
               let b = key_there words n s c first.word in
               let d = key_there words n (code y) e q.word in
               let less : e * 4294967296 + length r < c * 4294967296 + length p = lesser k q.few in
@@ -188,8 +188,8 @@ module _ {v n : ℕ} {status : List ℕ → Status} {words : List ℕ} (h : Hold
           → ⊥
       unfolding key
       none-queued not y bits r e is =
-          let q = queued-state y bits r e is in
-          let a = root-least queue some (code y) q.0 in
+          let q = queued_state y bits r e is in
+          let a = root_least queue some (code y) q.0 in
           let b = unqueued_cost (get_or words (winner words n 1) 0) not in
           let c = cost_else (get_or words (code y) 0) (λ z. omega (arith, q.1.word)) in
           omega (arith, q.1)
@@ -200,104 +200,104 @@ module _ {h : Head} {f e o : List ℕ} {n s : ℕ} {words : List ℕ} (v : Visit
   at_state = state_of (length v.t.initial) s
 
   pub first_below : s < n
-  first_below = rw v.first (root-state v.known.queue roomy.some)
+  first_below = rw v.first (root_state v.known.queue roomy.some)
 
-  pub first-queued : IsQueued v.known.holds s
-  first-queued = waiting-at v.known.holds s first_below v.waiting
+  pub first_queued : IsQueued v.known.holds s
+  first_queued = waiting_at v.known.holds s first_below v.waiting
 
-  pub first-least : LeastKey (length v.t.initial) v.known.status first-queued.p first-queued.c
-  first-least =
-      least-key v.known.holds v.ground.states v.known.queue roomy.some s v.first first-queued.p first-queued.c
-      first-queued.at
+  pub first_least : LeastKey (length v.t.initial) v.known.status first_queued.p first_queued.c
+  first_least =
+      least-key v.known.holds v.ground.states v.known.queue roomy.some s v.first first_queued.p first_queued.c
+      first_queued.at
 
   -- the goal's test is the task's
-  goal-same : holds (state_of h.variables s) (formula_of (upto h.formulas (row_at f)) h.goal) ≡ goal_holds v.t at_state
+  goal_same : holds (state_of h.variables s) (formula_of (upto h.formulas (row_at f)) h.goal) ≡ goal_holds v.t at_state
   unfolding goal_holds
-  goal-same = rw (v.tables.variables, v.tables.formulas, v.tables.goal) refl
+  goal_same = rw (v.tables.variables, v.tables.formulas, v.tables.goal) refl
 
-  pub visited-goal : {scratch : List ℕ} {r : Bool} → GoalTold h f s scratch r → r ≡ true → Visited v words true
-  visited-goal told e = at_goal (sym goal-same ∙ sym told.told ∙ e) refl
+  pub visited_goal : {scratch : List ℕ} {r : Bool} → GoalTold h f s scratch r → r ≡ true → Visited v words true
+  visited_goal told e = at_goal (sym goal_same ∙ sym told.told ∙ e) refl
 
   -- it is taken
   module _ {scratch : List ℕ} {r : Bool} (told : GoalTold h f s scratch r) (not-goal : r ≡ false) {mid : List ℕ} (now : TakenNow n s words mid) where
-    pub visit-taken :
-        Stepping v.t n mid (state_of (length v.t.initial) s) 0 first-queued.p first-queued.c
-    visit-taken =
+    pub visit_taken :
+        Stepping v.t n mid (state_of (length v.t.initial) s) 0 first_queued.p first_queued.c
+    visit_taken =
         record {
-          status = update v.known.status s (taken first-queued.p first-queued.c);
-          holds = holds-changed (length v.t.initial) v.ground.states first_below change none away v.known.holds says;
+          status = update v.known.status s (taken first_queued.p first_queued.c);
+          holds = holds_changed (length v.t.initial) v.ground.states first_below change none away v.known.holds says;
           queue = now.queue;
           searching =
-              taking v.t v.ground.passes v.known.searching at_state (state_bits (length v.t.initial) s) first-queued.p
-              first-queued.c first-queued.is first-least (sym goal-same ∙ sym told.told ∙ not-goal) change;
+              taking v.t v.ground.passes v.known.searching at_state (state_bits (length v.t.initial) s) first_queued.p
+              first_queued.c first_queued.is first_least (sym goal_same ∙ sym told.told ∙ not-goal) change;
           is_taken = change.here;
           fresh = λ x u d l is. absurd (none-behind x u d l (ℕ_discrete x s) is);
         }
       where
         change :
             Changed (length v.t.initial) v.known.status
-            (update v.known.status s (taken first-queued.p first-queued.c))
+            (update v.known.status s (taken first_queued.p first_queued.c))
             (state_of (length v.t.initial) s)
-            (taken first-queued.p first-queued.c)
-        change = updated (length v.t.initial) v.ground.states v.known.status s (taken first-queued.p first-queued.c) first_below
+            (taken first_queued.p first_queued.c)
+        change = updated (length v.t.initial) v.ground.states v.known.status s (taken first_queued.p first_queued.c) first_below
 
         none : (p : List ℕ) (c : ℕ) → v.known.status (state_of (length v.t.initial) s) ≡ taken p c → ⊥
-        none p c is = let q = first-queued.is in let z : ◌≡◌ {A = ℕ} 0 1 = cc in omega arith
+        none p c is = let q = first_queued.is in let z : ◌≡◌ {A = ℕ} 0 1 = cc in omega arith
 
         -- no list goes on from that of a state that is still queued
-        none_after : (x u d : ℕ) → x < n → v.known.status (state_of (length v.t.initial) x) ≡ queued (first-queued.p ++ (u ∷ [])) d → ⊥
-        none_after x u d l is = go (queued-at v.known.holds x l (first-queued.p ++ (u ∷ [])) d is).ends
+        none_after : (x u d : ℕ) → x < n → v.known.status (state_of (length v.t.initial) x) ≡ queued (first_queued.p ++ (u ∷ [])) d → ⊥
+        none_after x u d l is = go (queued_at v.known.holds x l (first_queued.p ++ (u ∷ [])) d is).ends
           where
-            go : Ends (length v.t.initial) n v.known.status (first-queued.p ++ (u ∷ [])) (get_or words (2 * n + x) 0) → ⊥
-            go (at_start q z) = omega (arith, ap length q, length-append first-queued.p (u ∷ []))
+            go : Ends (length v.t.initial) n v.known.status (first_queued.p ++ (u ∷ [])) (get_or words (2 * n + x) 0) → ⊥
+            go (at_start q z) = omega (arith, ap length q, length-append first_queued.p (u ∷ []))
             go (by_step parent w front e' below m was z q) =
-                let size : length front ≡ length first-queued.p =
-                omega (arith, ap length q, length-append first-queued.p (u ∷ []), length-append front (w ∷ [])) in
-                let same : front ≡ first-queued.p =
-                sym (take_at front (w ∷ []) (length first-queued.p) size)
-                ∙ ap (take (length first-queued.p)) (sym q)
-                ∙ take_at first-queued.p (u ∷ []) (length first-queued.p) refl in
+                let size : length front ≡ length first_queued.p =
+                omega (arith, ap length q, length-append first_queued.p (u ∷ []), length-append front (w ∷ [])) in
+                let same : front ≡ first_queued.p =
+                sym (take_at front (w ∷ []) (length first_queued.p) size)
+                ∙ ap (take (length first_queued.p)) (sym q)
+                ∙ take_at first_queued.p (u ∷ []) (length first_queued.p) refl in
                 let k = length v.t.initial in
                 let one =
-                (leads-once (v.known.searching.leads (state_of k parent) (state_bits k parent) front e' (stands was))
-                (rw (← same) at (v.known.searching.leads at_state (state_bits k s) first-queued.p first-queued.c (waits first-queued.is)))).0 in
+                (leads_once (v.known.searching.leads (state_of k parent) (state_bits k parent) front e' (stands was))
+                (rw (← same) at (v.known.searching.leads at_state (state_bits k s) first_queued.p first_queued.c (waits first_queued.is)))).0 in
                 none front e' (ap v.known.status (sym one) ∙ was)
 
         none-behind :
             (x u d : ℕ)
             → x < n
             → Dec (x ≡ s)
-            → update v.known.status s (taken first-queued.p first-queued.c) (state_of (length v.t.initial) x) ≡ queued (first-queued.p ++ (u ∷ [])) d
+            → update v.known.status s (taken first_queued.p first_queued.c) (state_of (length v.t.initial) x) ≡ queued (first_queued.p ++ (u ∷ [])) d
             → ⊥
         none-behind x u d l (yes q) is = let f = change.here in let g = rw q at is in let z : ◌≡◌ {A = ℕ} 0 1 = cc in omega arith
         none-behind x u d l (no q) is =
             none_after x u d l
             (sym
             (change.elsewhere (state_of (length v.t.initial) x) (state_bits (length v.t.initial) x)
-            (other-state (length v.t.initial) v.ground.states s x first_below l q))
+            (other_state (length v.t.initial) v.ground.states s x first_below l q))
             ∙ is)
 
         away : Elsewhere n s words mid
         away = record { costs = now.costs; steps = λ x l ne. now.steps x l; lasts = λ x l ne. now.lasts x l }
 
         says :
-            Says (length v.t.initial) n (update v.known.status s (taken first-queued.p first-queued.c)) mid s
-            (taken first-queued.p first-queued.c)
+            Says (length v.t.initial) n (update v.known.status s (taken first_queued.p first_queued.c)) mid s
+            (taken first_queued.p first_queued.c)
         says =
-            says_taken {p = first-queued.p} now.word (now.steps s first_below ∙ first-queued.at.steps)
+            says_taken {p = first_queued.p} now.word (now.steps s first_below ∙ first_queued.at.steps)
             (rw (now.lasts s first_below)
-            (ends_on (still-taken (length v.t.initial) v.ground.states first_below change none away) first-queued.at.ends))
+            (ends_on (still_taken (length v.t.initial) v.ground.states first_below change none away) first_queued.at.ends))
 
     -- where its operators lead
     module _ (few : h.variables ≤ 10) {masks : List ℕ} (found : RowMasks e h.effects scratch masks) (room : h.formulas ≤ length scratch) (masks-room : h.effects ≤ length masks) where
       pub operators_number : length v.t.operators ≡ h.operators
-      operators_number = ap length v.tables.operators ∙ length-upto h.operators (operator_at o)
+      operators_number = ap length v.tables.operators ∙ length_upto h.operators (operator_at o)
 
       pub operator-row : (i : ℕ) → i < h.operators → operator_of v.t i ≡ operator_at o i
       unfolding operator_of
       operator-row i l =
           ap (λ (x : List Operator). get_or x i no_operator) v.tables.operators
-          ∙ getD-upto h.operators (operator_at o) i no_operator l
+          ∙ getD_upto h.operators (operator_at o) i no_operator l
 
       values : Values at_state (upto h.formulas (row_at f)) h.formulas scratch
       values = rw v.tables.variables told.values
@@ -316,7 +316,7 @@ module _ {h : Head} {f e o : List ℕ} {n s : ℕ} {words : List ℕ} (v : Visit
           → Masked (length v.t.initial) at_state (effect_of (upto h.formulas (row_at f)) (upto h.effects (row_at e)) (operator_at o i).effect)
           (get_or masks (operator_at o i).effect 0)
       effect-masked i l =
-          row-masked (rw v.tables.variables few)
+          row_masked (rw v.tables.variables few)
           (λ j m. rw v.tables.variables (v.tables.ready.effect j m))
           values found (operator_at o i).effect (v.tables.ready.operator i l).changes
 
@@ -329,7 +329,7 @@ module _ {h : Head} {f e o : List ℕ} {n s : ℕ} {words : List ℕ} (v : Visit
           → state_of (length v.t.initial) (next_code s (get_or masks (operator_at o i).effect 0)) ≡ next v.t at_state i
       unfolding next effect_of_operator
       operator-leads i l =
-          next-state (rw v.tables.variables few) code-low (effect-masked i l)
+          next_state (rw v.tables.variables few) code-low (effect-masked i l)
           ∙ sym (rw (operator-row i l, v.tables.formulas, v.tables.effects) refl)
 
       unfoldable pub visit_stage : Stage n o h.operators s (get_or words s 0) (get_or words (n + s) 0) scratch masks
@@ -345,22 +345,22 @@ module _ {h : Head} {f e o : List ℕ} {n s : ℕ} {words : List ℕ} (v : Visit
             precondition = λ i l. omega (arith, (v.tables.ready.operator i l).formula);
             effect = λ i l. omega (arith, (v.tables.ready.operator i l).changes);
             applies = operator-applies;
-            inside = λ i l. rw v.ground.states (next-below (rw v.tables.variables few) code-low (effect-masked i l));
+            inside = λ i l. rw v.ground.states (next_below (rw v.tables.variables few) code-low (effect-masked i l));
             leads = operator-leads;
-            p = first-queued.p;
-            c = first-queued.c;
-            costs = first-queued.at.word;
-            size = first-queued.at.steps;
+            p = first_queued.p;
+            c = first_queued.c;
+            costs = first_queued.at.word;
+            size = first_queued.at.steps;
           }
 
       pub visit-expandable : Roomy n mid → Expandable n o h.operators s (get_or words s 0) (get_or words (n + s) 0) scratch masks mid
       unfolding visit_stage
-      visit-expandable r = record { roomy = r; stage = visit_stage; stepping = visit-taken }
+      visit-expandable r = record { roomy = r; stage = visit_stage; stepping = visit_taken }
 
       pub visited-on : {after : List ℕ} → (SteppedTo visit_stage mid 0 → SteppedTo visit_stage after h.operators) → Visited v after false
       unfolding visit_stage
       visited-on on =
-          let x = on visit-taken in
+          let x = on visit_taken in
           passed
           (record {
             status = x.status;

@@ -45,6 +45,6 @@ first_cheapest t (numbers ∷ lists) =
 abbrev pub most_steps : Task → ℕ
 most_steps t = 2 ^ length t.initial - 1
 
--- The cheapest plan. That it is the least among lists of any length is no part of the definition but a theorem, `cheapest-is-least`.
+-- The cheapest plan. That it is the least among lists of any length is no part of the definition but a theorem, `cheapest_is_least`.
 unfoldable pub cheapest : Task → Pick
 cheapest t = first_cheapest t (lists_upto (length t.operators) (most_steps t))

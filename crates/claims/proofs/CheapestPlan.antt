@@ -16,20 +16,20 @@ use Rattle.task.specs.Check.{refusal, unless}
 use Rattle.task.specs.Words.{padded}
 use Rattle.task.proofs.Bounded.{and_left, and_right, and_both}
 use Rattle.task.proofs.Passed.{not_refused}
-use Rattle.task.proofs.Kept.{kept-rules}
+use Rattle.task.proofs.Kept.{kept_rules}
 use Rattle.stepper.specs.Stepped.{first_of, step_scratch_kept}
 use Rattle.stepper.proofs.Refusing.{first_none}
 use Rattle.normal_form.specs.Finished.{finished}
 use Rattle.normal_form.specs.Compiled.{Room, compiled_head, compiling, given}
-use Rattle.normal_form.proofs.ShapePassed.{finished-rules}
+use Rattle.normal_form.proofs.ShapePassed.{finished_rules}
 use Rattle.cheapest_plan.specs.Cheapest.{Pick, no_plan, plan_of, cheapest}
 use Rattle.cheapest_plan.specs.Order.{Plan}
 use Rattle.cheapest_plan.specs.Planned.{few_variables, search_scratch_kept, search_refusal, plan_refused, plan_written, plan_told, planned_by, planned}
-use Rattle.cheapest_plan.proofs.Cheapest.{cheapest-is-plan, plan-is-short, none-cheaper, none-shorter, none_before, cheapest-is-least, no-plan-exactly-if, least-is-cheapest, same_cheapest}
+use Rattle.cheapest_plan.proofs.Cheapest.{cheapest_is_plan, plan_is_short, none-cheaper, none-shorter, none_before, cheapest_is_least, no_plan_exactly_if, least_is_cheapest, same_cheapest}
 use Rattle.claims.specs.Statements.{Compiles, RunsAlike}
 use Rattle.claims.specs.Numbers.{Given, broken, keeps, no_rule_left}
 use Rattle.claims.specs.CheapestPlan.{CheapestPlan, PlanTold, SearchRoom, HasPlan, PlanFits, plan_numbers, PlanKept, PlanLeaves}
-use Rattle.claims.proofs.Numbers.{given as given-rule, at_most, tables-given-passed, passed_on, behind_kept, tables-passed, tables-behind}
+use Rattle.claims.proofs.Numbers.{given as given-rule, at_most, tables_given_passed, passed_on, behind_kept, tables_passed, tables_behind}
 use Rattle.claims.proofs.Refusals.{all_zero, words_past}
 use Rattle.claims.proofs.DemandThree.{demand_three, given_runs_alike}
 
@@ -37,12 +37,12 @@ use Rattle.claims.proofs.DemandThree.{demand_three, given_runs_alike}
 pub given_is_cheapest : (t : Task) → Checked t → {p : List ℕ} {c : ℕ} → cheapest t ≡ plan_of p c → CheapestPlan t p c
 given_is_cheapest t passes e =
     record {
-      plan = (cheapest-is-plan t passes e).0;
-      charged = (cheapest-is-plan t passes e).1;
+      plan = (cheapest_is_plan t passes e).0;
+      charged = (cheapest_is_plan t passes e).1;
       least_cost = none-cheaper t passes e;
       fewest_steps = none-shorter t passes e;
       first = none_before t passes e;
-      short = plan-is-short t passes e;
+      short = plan_is_short t passes e;
     }
 
 -- Source and compiled task: the same plan at the same cost, or none in both.
@@ -55,37 +55,37 @@ alike_cheapest t u x y d =
 
 pub same_cheapest_plan : (t : Task) → Compiles t → cheapest t ≡ cheapest (finished t)
 same_cheapest_plan t c =
-    alike_cheapest t (finished t) c.rules.checked (finished-rules t c.rules.checked c.room) (demand_three t c)
+    alike_cheapest t (finished t) c.rules.checked (finished_rules t c.rules.checked c.room) (demand_three t c)
 
 module _ (l : Lent) (scratch words : List ℕ) (passed : search_refusal l scratch words ≡ 0) where
-  tables-pass : refusal l ≡ 0
+  tables_pass : refusal l ≡ 0
   unfolding search_refusal
-  tables-pass = first_none (refusal l) (unless (few_variables l.head) 21 (unless (search_scratch_kept l.head scratch words) 14 0)) passed
+  tables_pass = first_none (refusal l) (unless (few_variables l.head) 21 (unless (search_scratch_kept l.head scratch words) 14 0)) passed
 
   pub checked : Checked (task_of l)
-  checked = (kept-rules l tables-pass).1
+  checked = (kept_rules l tables_pass).1
 
   searched : (plan : List ℕ) → planned l plan scratch words ≡ plan_told (cheapest (task_of l)) plan scratch words
   unfolding planned planned_by
   searched plan = rw passed
 
   -- 22 is given exactly if no list of numbers whatever is a plan
-  pub twenty-two-exactly-if :
+  pub twenty_two_exactly_if :
       (plan : List ℕ)
       → (planned l plan scratch words).answer.refusal ≡ 22
       ↔ ((numbers : List ℕ) → Plan (task_of l) numbers → ⊥)
   unfolding plan_told plan_refused plan_written
-  twenty-two-exactly-if plan = rw (searched plan) (go (cheapest (task_of l)) refl)
+  twenty_two_exactly_if plan = rw (searched plan) (go (cheapest (task_of l)) refl)
     where
       go :
           (a : Pick)
           → cheapest (task_of l) ≡ a
           → (plan_told a plan scratch words).answer.refusal ≡ 22
           ↔ ((numbers : List ℕ) → Plan (task_of l) numbers → ⊥)
-      go no_plan e = (λ z. (no-plan-exactly-if (task_of l) checked).0 e, λ nothing. refl)
+      go no_plan e = (λ z. (no_plan_exactly_if (task_of l) checked).0 e, λ nothing. refl)
       go (plan_of p c) e = (
         λ z. absurd (not-told (leb (length p) (length plan)) z),
-        λ nothing. absurd (nothing p (cheapest-is-plan (task_of l) checked e).0),
+        λ nothing. absurd (nothing p (cheapest_is_plan (task_of l) checked e).0),
       )
         where
           not-told :
@@ -138,14 +138,14 @@ call_tells_the_cheapest l plan scratch words z = go (search_refusal l scratch wo
 
 -- the outcome's answer and plan are told by what is picked and how long the buffer is
 module _ (plan plan' scratch scratch' words words' : List ℕ) (size : length plan ≡ length plan') where
-  told-alike :
+  told_alike :
       (a : Pick)
       → let w = plan_told a plan scratch words in
       let w' = plan_told a plan' scratch' words' in
       (w.answer ≡ w'.answer) × (w.plan ≡ w'.plan)
   unfolding plan_told plan_refused plan_written
-  told-alike no_plan = (refl, ap (λ (n : ℕ). replicate n 0) size)
-  told-alike (plan_of p c) = rw (ap (leb (length p)) size) (fits (leb (length p) (length plan')))
+  told_alike no_plan = (refl, ap (λ (n : ℕ). replicate n 0) size)
+  told_alike (plan_of p c) = rw (ap (leb (length p)) size) (fits (leb (length p) (length plan')))
     where
       fits :
           (b : Bool)
@@ -173,7 +173,7 @@ plans_alike l room h success plan plan' scratch scratch' words words' size e e' 
     alike_cheapest (task_of l) (task_of u) (checked l scratch words e) (checked u scratch' words' e')
     (given_runs_alike l room h success) in
     rw (searched l scratch words e plan, searched u scratch' words' e' plan', same)
-    (told-alike plan plan' scratch scratch' words words' size (cheapest (task_of u)))
+    (told_alike plan plan' scratch scratch' words words' size (cheapest (task_of u)))
 
 -- Which number the call gives: that of the first rule in 02's order that is broken.
 room_tested : (l : Lent) (scratch words : List ℕ) → search_scratch_kept l.head scratch words ≡ true ↔ SearchRoom l scratch words
@@ -204,11 +204,11 @@ fits_tested t passes {p} {c} e n = (
       record {
         fits =
             λ q least.
-            let one = least-is-cheapest t passes least in
+            let one = least_is_cheapest t passes least in
             let same : q ≡ p = cc in
             rw same (leb-true (length p) n b);
       },
-  λ f. le-leb (length p) n (f.fits p (cheapest-is-least t passes e)),
+  λ f. le-leb (length p) n (f.fits p (cheapest_is_least t passes e)),
 )
 
 module _ (l : Lent) (plan scratch words : List ℕ) where
@@ -231,9 +231,9 @@ module _ (l : Lent) (plan scratch words : List ℕ) where
           → cheapest (task_of l) ≡ a
           → Given (HasPlan (task_of l)) 22 (Given (PlanFits (task_of l) (length plan)) 23 no_rule_left)
           (plan_told a plan scratch words).answer.refusal
-      go no_plan e = broken (λ h. (no-plan-exactly-if (task_of l) passes).0 e h.numbers h.plan) refl
+      go no_plan e = broken (λ h. (no_plan_exactly_if (task_of l) passes).0 e h.numbers h.plan) refl
       go (plan_of p c) e =
-          keeps (record { numbers = p; plan = (cheapest-is-plan (task_of l) passes e).0 })
+          keeps (record { numbers = p; plan = (cheapest_is_plan (task_of l) passes e).0 })
           (rw (number p c (leb (length p) (length plan)))
           (given-rule (leb (length p) (length plan)) 23 0 (fits_tested (task_of l) passes e (length plan)) (λ _. refl)))
 
@@ -247,22 +247,22 @@ module _ (l : Lent) (plan scratch words : List ℕ) where
   number_told zero false b = refl
   number_told (suc r) a b = refl
 
-  pub plan-gives-the-first : plan_numbers l plan scratch words (planned l plan scratch words).answer.refusal
+  pub plan_gives_the_first : plan_numbers l plan scratch words (planned l plan scratch words).answer.refusal
   unfolding planned search_refusal few_variables
-  plan-gives-the-first =
+  plan_gives_the_first =
       let h = l.head in
       rw (number_told (refusal l) (leb h.variables 10) (search_scratch_kept h scratch words))
-      (tables-given-passed l _ _ (λ passed.
+      (tables_given_passed l _ _ (λ passed.
       given-rule (leb h.variables 10) 21 _ (at_most h.variables 10) (λ _.
       given-rule (search_scratch_kept h scratch words) 14 _ (room_tested l scratch words) (λ _.
-      plan_given (kept-rules l (not_refused l passed)).1))))
+      plan_given (kept_rules l (not_refused l passed)).1))))
 
   -- refused by no number exactly if all rules are kept
-  pub planned-exactly-if : (planned l plan scratch words).answer.refusal ≡ 0 ↔ PlanKept l plan scratch words
-  planned-exactly-if =
-      let g = plan-gives-the-first in (
+  pub planned_exactly_if : (planned l plan scratch words).answer.refusal ≡ 0 ↔ PlanKept l plan scratch words
+  planned_exactly_if =
+      let g = plan_gives_the_first in (
         λ z.
-            let t = tables-passed l g z in
+            let t = tables_passed l g z in
             let g21 = passed_on 20 t.1 z in
             let g14 = passed_on 13 g21.1 z in
             let g22 = passed_on 21 g14.1 z in
@@ -270,7 +270,7 @@ module _ (l : Lent) (plan scratch words : List ℕ) where
             record { tables = t.0; few_variables = g21.0; room = g14.0; exists = g22.0; output = g23.0 },
         λ k.
             behind_kept
-            (behind_kept (behind_kept (behind_kept (tables-behind l g k.tables) k.few_variables) k.room) k.exists)
+            (behind_kept (behind_kept (behind_kept (tables_behind l g k.tables) k.few_variables) k.room) k.exists)
             k.output,
       )
 

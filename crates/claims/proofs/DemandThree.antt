@@ -9,12 +9,12 @@ use Rattle.task.specs.Check.{refusal}
 use Rattle.task.specs.Rules.{Limits, Checked, LentWords}
 use Rattle.task.proofs.Sixteen.{lent_rules}
 use Rattle.task.specs.Run.{plain_run, is_plan}
-use Rattle.task.proofs.Kept.{kept-rules}
+use Rattle.task.proofs.Kept.{kept_rules}
 use Rattle.normal_form.specs.Finished.{finished}
 use Rattle.normal_form.specs.Compiled.{Room, compiled_head, compiling, given}
-use Rattle.normal_form.proofs.MeaningStep.{free-of-conflict}
+use Rattle.normal_form.proofs.MeaningStep.{free_of_conflict}
 use Rattle.normal_form.proofs.Demand.{alike_from, initial_correspond, outside}
-use Rattle.normal_form.proofs.Compiled.{given-compiles, given-task}
+use Rattle.normal_form.proofs.Compiled.{given_compiles, given_task}
 use Rattle.claims.specs.Statements.{Compiles, RunsAlike}
 
 runs_alike : (t : Task) → Checked t → RunsAlike t (finished t)
@@ -22,7 +22,7 @@ runs_alike t c =
     record {
       runs = λ s s' numbers width states. alike_from t c s s' width states numbers;
       initially = initial_correspond t c;
-      free = λ s s' width states o x. free-of-conflict t c s s' width states o x;
+      free = λ s s' width states o x. free_of_conflict t c s s' width states o x;
       outside = outside t;
     }
 
@@ -38,7 +38,7 @@ no_twins l e = ap (λ (k : ℕ). length (take k l.twins)) e
 pub tables_compile :
     (l : Lent) → LentWords l → refusal l ≡ 0 → l.head.twins ≡ 0 → Limits (finished (task_of l)) → Compiles (task_of l)
 tables_compile l words passed untwinned room =
-    let k = kept-rules l passed in
+    let k = kept_rules l passed in
     record { rules = lent_rules l words k.0 k.1; untwinned = no_twins l untwinned; room = room }
 
 pub demand_three_of_tables :
@@ -47,7 +47,7 @@ pub demand_three_of_tables :
     → l.head.twins ≡ 0
     → Limits (finished (task_of l))
     → RunsAlike (task_of l) (finished (task_of l))
-demand_three_of_tables l passed untwinned room = runs_alike (task_of l) (kept-rules l passed).1
+demand_three_of_tables l passed untwinned room = runs_alike (task_of l) (kept_rules l passed).1
 
 -- The same of a compiling that succeeds: the source's tables and the tables that it gave.
 pub given_runs_alike :
@@ -55,8 +55,8 @@ pub given_runs_alike :
     → (compiling l room).answer ≡ compiled_head h
     → RunsAlike (task_of l) (task_of (given h (compiling l room)))
 given_runs_alike l room h success =
-    let c = given-compiles l room h success in
-    rw (given-task l room h success) (demand_three_of_tables l c.passes c.untwinned c.fits.limits)
+    let c = given_compiles l room h success in
+    rw (given_task l room h success) (demand_three_of_tables l c.passes c.untwinned c.fits.limits)
 
 -- What the users read off it: from the initial states the two tasks have the same plans, and each costs the same in both.
 pub same_plans :

@@ -15,15 +15,15 @@ use Rattle.task.specs.Words.{head_of}
 use Rattle.task.specs.Run.{Run, plain_run}
 use Rattle.task.specs.Corresponding.{Corresponding}
 use Rattle.task.proofs.Bounded.{every_from}
-use Rattle.task.proofs.Held.{length-initial}
-use Rattle.task.proofs.Kept.{kept-rules}
+use Rattle.task.proofs.Held.{length_initial}
+use Rattle.task.proofs.Kept.{kept_rules}
 use Rattle.normal_form.specs.Finished.{finished}
 use Rattle.normal_form.specs.Alike.{Alike}
 use Rattle.normal_form.specs.Compiled.{Room, compiled_head, compiling, given}
-use Rattle.normal_form.proofs.ShapePassed.{finished-variables}
-use Rattle.normal_form.proofs.Compiled.{given-compiles, given-task, given-head, given-passes}
+use Rattle.normal_form.proofs.ShapePassed.{finished_variables}
+use Rattle.normal_form.proofs.Compiled.{given_compiles, given_task, given_head, given_passes}
 use Rattle.plan.specs.Outcome.{early_refusal, run_refusal, run_answer, ran}
-use Rattle.plan.proofs.Refusing.{not_refused, run-not-refused, run-ready, short-enough}
+use Rattle.plan.proofs.Refusing.{not_refused, run_not_refused, run_ready, short_enough}
 use Rattle.claims.proofs.DemandThree.{given_runs_alike}
 use Rattle.claims.proofs.DemandTwoRuns.{run_is_the_plain_run}
 
@@ -34,11 +34,11 @@ alike_answers r r' a = rw (a.steps, a.cost, a.goal, a.stop)
 module _ (l : Lent) (room : Room) (h : Head) (success : (compiling l room).answer ≡ compiled_head h) where
   width : (s numbers scratch : List ℕ) → run_refusal l s numbers scratch ≡ 0 → length s ≡ length (task_of l).initial
   width s numbers scratch e =
-      (run-ready l s numbers scratch e).state.size
-      ∙ sym (length-initial l (kept-rules l (given-compiles l room h success).passes).0)
+      (run_ready l s numbers scratch e).state.size
+      ∙ sym (length_initial l (kept_rules l (given_compiles l room h success).passes).0)
 
   -- Where compiling succeeded and neither run is refused, they answer the same, steps, cost, goal and end, and their last states correspond.
-  pub calls-alike :
+  pub calls_alike :
       (s s' numbers scratch scratch' : List ℕ)
       → Corresponding (task_of (given h (compiling l room))).originals s s'
       → run_refusal l s numbers scratch ≡ 0
@@ -46,7 +46,7 @@ module _ (l : Lent) (room : Room) (h : Head) (success : (compiling l room).answe
       → let w = ran l s numbers scratch in
       let w' = ran (given h (compiling l room)) s' numbers scratch' in
       (w.answer ≡ w'.answer) × Corresponding (task_of (given h (compiling l room))).originals w.state w'.state
-  calls-alike s s' numbers scratch scratch' states e e' =
+  calls_alike s s' numbers scratch scratch' states e e' =
       let a = (given_runs_alike l room h success).runs s s' numbers (width s numbers scratch e) states in
       rw (run_is_the_plain_run l s numbers scratch e, run_is_the_plain_run (given h (compiling l room)) s' numbers scratch' e')
       (alike_answers (plain_run (task_of l) s numbers) (plain_run (task_of (given h (compiling l room))) s' numbers) a, a.states)
@@ -60,8 +60,8 @@ module _ (l : Lent) (room : Room) (h : Head) (success : (compiling l room).answe
   unfolding head_of
   wide s s' w states =
       let t = task_of l in
-      let e : length s' ≡ length s + length (finished t).originals = rw (given-task l room h success) at states.width in
-      rw (given-head l room h success) (omega (arith, finished-variables t))
+      let e : length s' ≡ length s + length (finished t).originals = rw (given_task l room h success) at states.width in
+      rw (given_head l room h success) (omega (arith, finished_variables t))
 
   bits :
       (s s' : List ℕ)
@@ -80,20 +80,20 @@ module _ (l : Lent) (room : Room) (h : Head) (success : (compiling l room).answe
           rw split (omega arith)
 
   -- A run that is not refused on the source's tables is not refused on the compiled ones either, scratch aside.
-  pub compiled-run-not-refused :
+  pub compiled_run_not_refused :
       (s s' numbers scratch scratch' : List ℕ)
       → Corresponding (task_of (given h (compiling l room))).originals s s'
       → run_refusal l s numbers scratch ≡ 0
       → h.formulas + h.effects ≤ length scratch'
       → run_refusal (given h (compiling l room)) s' numbers scratch' ≡ 0
-  compiled-run-not-refused s s' numbers scratch scratch' states e enough =
+  compiled_run_not_refused s s' numbers scratch scratch' states e enough =
       let told : every (length s') (λ v. leb (get_or s' v 0) 1) ≡ true =
       every_from (length s') (λ v. leb (get_or s' v 0) 1) (λ v b. le-leb (get_or s' v 0) 1 (bits s s' states v b))
       in
       let early : 0 ≡ early_refusal (given h (compiling l room)) s' scratch' =
-      not_refused (given h (compiling l room)) s' scratch' 0 (sym (given-passes l room h success)) refl
+      not_refused (given h (compiling l room)) s' scratch' 0 (sym (given_passes l room h success)) refl
       (wide s s' (width s numbers scratch e) states) true (sym told) refl enough
       in
       sym
-      (run-not-refused (given h (compiling l room)) s' numbers scratch' 0 early refl
-      (short-enough l s numbers scratch e))
+      (run_not_refused (given h (compiling l room)) s' numbers scratch' 0 early refl
+      (short_enough l s numbers scratch e))

@@ -10,7 +10,7 @@ use Rattle.task.specs.Table.{Lent, Task, task_of}
 use Rattle.task.specs.Check.{refusal}
 use Rattle.task.specs.Words.{head_of, lent_of}
 use Rattle.task.specs.Rules.{LentWords}
-use Rattle.task.proofs.Kept.{kept-rules}
+use Rattle.task.proofs.Kept.{kept_rules}
 use Rattle.task.proofs.Sixteen.{lent_rules}
 use Rattle.task.specs.Semantics.{Formula, Atom, Effect, holds, effcond}
 use Rattle.task.specs.Tree.{formula_of}
@@ -24,22 +24,22 @@ use Rattle.normal_form.specs.Operators.{parts}
 use Rattle.normal_form.specs.Finished.{finished}
 use Rattle.normal_form.specs.Compiled.{Room, Fits, compiled_head, not_compiled, CompileOutcome, nothing_given, task_given, compiling, given}
 use Rattle.normal_form.specs.Positive.{Positive, PositiveFormula, PositiveEffect}
-use Rattle.normal_form.proofs.Steady.{steady_image, steady-condition, steady_parts}
+use Rattle.normal_form.proofs.Steady.{steady_image, steady_condition, steady_parts}
 use Rattle.normal_form.proofs.ShapeFinished.{flat}
-use Rattle.normal_form.proofs.ShapePassed.{positive, finished-positive, finished-passes}
-use Rattle.normal_form.proofs.ShapePositive.{formula-positive}
-use Rattle.normal_form.proofs.Monotone.{formula-monotone, effect-monotone}
-use Rattle.normal_form.proofs.Compiled.{by-room, succeeds, given-compiles, fifteen, source-rules, given-head, given-task, given-passes, given-positive, given-flat}
+use Rattle.normal_form.proofs.ShapePassed.{positive, finished_positive, finished_passes}
+use Rattle.normal_form.proofs.ShapePositive.{formula_positive}
+use Rattle.normal_form.proofs.Monotone.{formula_monotone, effect_monotone}
+use Rattle.normal_form.proofs.Compiled.{by_room, succeeds, given_compiles, fifteen, source_rules, given_head, given_task, given_passes, given_positive, given_flat}
 use Rattle.claims.specs.Statements.{Compiles, NormalForm}
 
 -- The compiled task passes the check, has no negation symbol anywhere in its formula table, and flat effects.
 pub compiled_is_normal : (t : Task) → Compiles t → NormalForm (lent_of (finished t))
 compiled_is_normal t c =
     record {
-      passes = finished-passes t c.rules.checked c.room;
+      passes = finished_passes t c.rules.checked c.room;
       keeps = rw (task_of_lent (finished t)) (finished_keeps t c.rules c.room);
       positive_rows = rw (task_of_lent (finished t)) (positive t c.rules.checked);
-      positive = rw (task_of_lent (finished t)) (finished-positive t c.rules.checked);
+      positive = rw (task_of_lent (finished t)) (finished_positive t c.rules.checked);
       flat = λ o. rw (task_of_lent (finished t)) (flat t o);
     }
 
@@ -54,7 +54,7 @@ pub compiled_exactly_if :
 unfolding task_given
 compiled_exactly_if l room = (
   λ e.
-      let c = given-compiles l room (head_of (finished (task_of l))) e in
+      let c = given_compiles l room (head_of (finished (task_of l))) e in
       (c.passes, c.untwinned, c.scratch, c.fits),
   λ p.
       ap (λ (o : CompileOutcome). o.answer)
@@ -72,27 +72,27 @@ pub fifteen_exactly_if :
 unfolding nothing_given
 fifteen_exactly_if l room passed untwinned scratch = (
   fifteen l room,
-  λ n. ap (λ (o : CompileOutcome). o.answer) (by-room l room passed untwinned scratch n),
+  λ n. ap (λ (o : CompileOutcome). o.answer) (by_room l room passed untwinned scratch n),
 )
 
 module _ (l : Lent) (room : Room) (h : Head) (success : (compiling l room).answer ≡ compiled_head h) where
   -- A compiling that succeeds gives the compiled task: its head is answered, and its rows stand in the tables.
-  pub gives-compiled-task : (h ≡ head_of (finished (task_of l))) × (task_of (given h (compiling l room)) ≡ finished (task_of l))
-  gives-compiled-task = (given-head l room h success, given-task l room h success)
+  pub gives_compiled_task : (h ≡ head_of (finished (task_of l))) × (task_of (given h (compiling l room)) ≡ finished (task_of l))
+  gives_compiled_task = (given_head l room h success, given_task l room h success)
 
   -- What it gave passes the check, has no negation symbol anywhere in its formula table, and flat effects.
-  pub gives-normal-form : LentWords l → NormalForm (given h (compiling l room))
-  gives-normal-form words =
-      let c = given-compiles l room h success in
+  pub gives_normal_form : LentWords l → NormalForm (given h (compiling l room))
+  gives_normal_form words =
+      let c = given_compiles l room h success in
       record {
-        passes = given-passes l room h success;
+        passes = given_passes l room h success;
         keeps =
-            rw (given-task l room h success)
-            (finished_keeps (task_of l) (lent_rules l words (kept-rules l c.passes).0 (source-rules l room h success)) c.fits.limits);
-        positive_rows = given-positive l room h success;
+            rw (given_task l room h success)
+            (finished_keeps (task_of l) (lent_rules l words (kept_rules l c.passes).0 (source_rules l room h success)) c.fits.limits);
+        positive_rows = given_positive l room h success;
         positive =
-            rw (given-task l room h success) (finished-positive (task_of l) (source-rules l room h success));
-        flat = given-flat l room h success;
+            rw (given_task l room h success) (finished_positive (task_of l) (source_rules l room h success));
+        flat = given_flat l room h success;
       }
 
 -- Building only adds rows and twins, and building again in any later state gives the same row and adds nothing: of a formula's image or
@@ -101,7 +101,7 @@ pub image_again : (n : ℕ) (p : Polarity) (f : Formula) → Steady (image n p f
 image_again n p f = steady_image n p f
 
 pub condition_again : (n : ℕ) (p : Polarity) (l : Atom) (e : Effect) → Steady (condition (image n) p l e)
-condition_again n p l e = steady-condition (image n) (steady_image n) p l e
+condition_again n p l e = steady_condition (image n) (steady_image n) p l e
 
 pub task_again : (t : Task) → Steady (parts t)
 task_again t = steady_parts t
@@ -109,19 +109,19 @@ task_again t = steady_parts t
 -- Positive means monotone: in a state where every variable that was 1 is still 1, a positive formula that held still holds, and so does an
 -- effect condition of a positive effect. "not v0" is lost where v0 becomes 1, so no formula with a negation symbol in force counts as positive.
 module _ (s s' : List ℕ) (still : (v : ℕ) → get_or s v 0 ≡ 1 → get_or s' v 0 ≡ 1) where
-  pub positive-is-monotone : (p : Formula) → PositiveFormula p → holds s p ≡ true → holds s' p ≡ true
-  positive-is-monotone = formula-monotone s s' still
+  pub positive_is_monotone : (p : Formula) → PositiveFormula p → holds s p ≡ true → holds s' p ≡ true
+  positive_is_monotone = formula_monotone s s' still
 
-  pub positive-conditions-are-monotone :
+  pub positive_conditions_are_monotone :
       (l : Atom) (e : Effect) → PositiveEffect e → effcond s l e ≡ true → effcond s' l e ≡ true
-  positive-conditions-are-monotone = effect-monotone s s' still
+  positive_conditions_are_monotone = effect_monotone s s' still
 
   -- and every row of a positive formula table
-  pub positive-rows-are-monotone :
+  pub positive_rows_are_monotone :
       (t : Task)
       → Positive t
       → (i : ℕ)
       → holds s (formula_of t.formulas i) ≡ true
       → holds s' (formula_of t.formulas i) ≡ true
-  positive-rows-are-monotone t rows i =
-      formula-monotone s s' still (formula_of t.formulas i) (formula-positive t rows i)
+  positive_rows_are_monotone t rows i =
+      formula_monotone s s' still (formula_of t.formulas i) (formula_positive t rows i)

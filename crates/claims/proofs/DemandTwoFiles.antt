@@ -19,9 +19,9 @@ use Rattle.task_writer.specs.declared.WriteAnswer.TheVariants.{Written}
 use Rattle.task_writer.specs.Writing.{file_outcome, write_outcome}
 use Rattle.file_format.proofs.Parse.{Bytes}
 use Rattle.file_format.proofs.RoundTrip.{read_written, written_read, cut_short, bytes_follow, apart}
-use Rattle.file_format.proofs.OfBytes.{bytes_each, each_byte, file-is-bytes, costs_of_bytes}
+use Rattle.file_format.proofs.OfBytes.{bytes_each, each_byte, file_is_bytes, costs_of_bytes}
 use Rattle.task_writer.proofs.Calls.{read_after_write, write_after_read}
-use Rattle.task_writer.proofs.Told.{head-again, initial-again, twins-again, formulas-again, effects-again, operators-again, length-again, bytes-again}
+use Rattle.task_writer.proofs.Told.{head_again, initial_again, twins_again, formulas_again, effects_again, operators_again, length_again, bytes_again}
 use Rattle.claims.specs.Statements.{OfBytes}
 use Rattle.claims.specs.Files.{SameTables, SameFile}
 
@@ -45,7 +45,7 @@ file_accepted_exactly_if l file t bytes = (
 
 -- Every task that keeps the rules has a file: its bytes are bytes.
 pub file_of_a_task : (t : Task) → Rules t → OfBytes (file_of t)
-file_of_a_task t rules = record { byte = each_byte (file_of t) (file-is-bytes t rules) }
+file_of_a_task t rules = record { byte = each_byte (file_of t) (file_is_bytes t rules) }
 
 -- Reading the file that writing gives yields the same task ..
 pub reading_what_was_written : (l : Lengths) (t : Task) → Rules t → HasRoom l t → reading l (file_of t) ≡ accepted t
@@ -60,12 +60,12 @@ pub read_gives_what_was_written :
     → SameTables l (read_outcome lengths (take k (write_outcome l n).out))
 read_gives_what_was_written l n k lengths told room =
     record {
-      head = head-again l n k lengths told room;
-      initial = initial-again l n k lengths told room;
-      twins = twins-again l n k lengths told room;
-      formulas = formulas-again l n k lengths told room;
-      effects = effects-again l n k lengths told room;
-      operators = operators-again l n k lengths told room;
+      head = head_again l n k lengths told room;
+      initial = initial_again l n k lengths told room;
+      twins = twins_again l n k lengths told room;
+      formulas = formulas_again l n k lengths told room;
+      effects = effects_again l n k lengths told room;
+      operators = operators_again l n k lengths told room;
     }
 
 -- The whole outcome of that reading, with 0 behind the words.
@@ -97,8 +97,8 @@ pub write_gives_what_was_read :
 write_gives_what_was_read lengths file h n bytes told fits =
     let b = bytes_each file bytes.byte in
     record {
-      written = length-again lengths file h n b told fits;
-      bytes = bytes-again lengths file h n b told fits;
+      written = length_again lengths file h n b told fits;
+      bytes = bytes_again lengths file h n b told fits;
     }
 
 -- The whole outcome of that writing: the file and 0 behind it, or 20 if the output is shorter.

@@ -14,76 +14,76 @@ use Rattle.normal_form.specs.Image.{image}
 use Rattle.normal_form.specs.Conditions.{condition}
 use Rattle.normal_form.specs.Operators.{Changes, changes_of, built_operator, parts}
 use Rattle.normal_form.specs.Finished.{built, finished}
-use Rattle.normal_form.proofs.Steady.{steady_image, steady-condition}
-use Rattle.normal_form.proofs.ShapeSizes.{variable-grows, operator-grows}
-use Rattle.normal_form.proofs.Order.{image_stands, condition-stands}
-use Rattle.claims.proofs.Ordered.{pair_in_order, under-ordered, changes-ordered, behind_each, moment-from-start, moment-stands}
+use Rattle.normal_form.proofs.Steady.{steady_image, steady_condition}
+use Rattle.normal_form.proofs.ShapeSizes.{variable_grows, operator_grows}
+use Rattle.normal_form.proofs.Order.{image_stands, condition_stands}
+use Rattle.claims.proofs.Ordered.{pair_in_order, under_ordered, changes_ordered, behind_each, moment_from_start, moment_stands}
 use Rattle.claims.specs.Order.{PairInOrder, UnderInOrder, ChangesInOrder, behind, OperatorInOrder, state_before, TaskInOrder}
 
 -- "a implies b" is (not a) or b, negated a and (not b). "a equivalent to b" is (a and b) or (not a and not b); negated, (a and not b) or (not a and
 -- b). "And" and "or", negated, follow De Morgan in the same order.
 module _ (n : ℕ) (a b : Formula) where
-  pub implies-is : image n plain (implication a b) ≡ image n plain (disjunction (negation a) b)
+  pub implies_is : image n plain (implication a b) ≡ image n plain (disjunction (negation a) b)
   unfolding image
-  implies-is = refl
+  implies_is = refl
 
-  pub implies-negated-is : image n negated (implication a b) ≡ image n plain (conjunction a (negation b))
+  pub implies_negated_is : image n negated (implication a b) ≡ image n plain (conjunction a (negation b))
   unfolding image
-  implies-negated-is = refl
+  implies_negated_is = refl
 
-  pub equivalent-is :
+  pub equivalent_is :
       image n plain (equivalence a b)
       ≡ image n plain (disjunction (conjunction a b) (conjunction (negation a) (negation b)))
   unfolding image
-  equivalent-is = refl
+  equivalent_is = refl
 
-  pub equivalent-negated-is :
+  pub equivalent_negated_is :
       image n negated (equivalence a b)
       ≡ image n plain (disjunction (conjunction a (negation b)) (conjunction (negation a) b))
   unfolding image
-  equivalent-negated-is = refl
+  equivalent_negated_is = refl
 
-  pub and-negated-is : image n negated (conjunction a b) ≡ image n plain (disjunction (negation a) (negation b))
+  pub and_negated_is : image n negated (conjunction a b) ≡ image n plain (disjunction (negation a) (negation b))
   unfolding image
-  and-negated-is = refl
+  and_negated_is = refl
 
-  pub or-negated-is : image n negated (disjunction a b) ≡ image n plain (conjunction (negation a) (negation b))
+  pub or_negated_is : image n negated (disjunction a b) ≡ image n plain (conjunction (negation a) (negation b))
   unfolding image
-  or-negated-is = refl
+  or_negated_is = refl
 
 -- Each pair is built left, right, then the join.
 module _ (n : ℕ) (a b : Formula) (s : St) (from : Grows start s) where
-  pub and-in-order : (p : Polarity) → PairInOrder p s (image n p a) (image n p b) (image n p (conjunction a b))
+  pub and_in_order : (p : Polarity) → PairInOrder p s (image n p a) (image n p b) (image n p (conjunction a b))
   unfolding image
-  and-in-order p = pair_in_order p s (steady_image n p a) (steady_image n p b) (image_stands n p a) from
+  and_in_order p = pair_in_order p s (steady_image n p a) (steady_image n p b) (image_stands n p a) from
 
-  pub or-in-order : (p : Polarity) → PairInOrder (opposite p) s (image n p a) (image n p b) (image n p (disjunction a b))
+  pub or_in_order : (p : Polarity) → PairInOrder (opposite p) s (image n p a) (image n p b) (image n p (disjunction a b))
   unfolding image
-  or-in-order p = pair_in_order (opposite p) s (steady_image n p a) (steady_image n p b) (image_stands n p a) from
+  or_in_order p = pair_in_order (opposite p) s (steady_image n p a) (steady_image n p b) (image_stands n p a) from
 
   -- not a, then b; negated a, then not b
-  pub implies-in-order :
+  pub implies_in_order :
       (p : Polarity) → PairInOrder (opposite p) s (image n (opposite p) a) (image n p b) (image n p (implication a b))
   unfolding image
-  implies-in-order p =
+  implies_in_order p =
       pair_in_order (opposite p) s (steady_image n (opposite p) a) (steady_image n p b) (image_stands n (opposite p) a) from
 
   -- (a and b), in it a first, then (not a and not b); negated (a and not b), then (not a and b)
-  pub equivalent-in-order :
+  pub equivalent_in_order :
       PairInOrder negated s (image n plain (conjunction a b)) (image n plain (conjunction (negation a) (negation b)))
       (image n plain (equivalence a b))
   unfolding image
-  equivalent-in-order =
+  equivalent_in_order =
       pair_in_order negated s (steady_image n plain (conjunction a b))
       (steady_image n plain (conjunction (negation a) (negation b)))
       (image_stands n plain (conjunction a b))
       from
 
-  pub equivalent-negated-in-order :
+  pub equivalent_negated_in_order :
       PairInOrder negated s (image n plain (conjunction a (negation b))) (image n plain (conjunction (negation a) b))
       (image n negated (equivalence a b))
   unfolding image
-  equivalent-negated-in-order =
+  equivalent_negated_in_order =
       pair_in_order negated s (steady_image n plain (conjunction a (negation b)))
       (steady_image n plain (conjunction (negation a) b))
       (image_stands n plain (conjunction a (negation b)))
@@ -91,17 +91,17 @@ module _ (n : ℕ) (a b : Formula) (s : St) (from : Grows start s) where
 
 -- The effect condition of an atom l and its dual: of "both", left first; under a formula, the inner effect first.
 module _ (n : ℕ) (p : Polarity) (l : Atom) (s : St) (from : Grows start s) where
-  pub both-in-order :
+  pub both_in_order :
       (e f : Effect)
       → PairInOrder (opposite p) s (condition (image n) p l e) (condition (image n) p l f) (condition (image n) p l (both e f))
   unfolding condition
-  both-in-order e f =
-      let steady = steady-condition (image n) (steady_image n) p l in
-      pair_in_order (opposite p) s (steady e) (steady f) (condition-stands (image n) (steady_image n) (image_stands n) p l e) from
+  both_in_order e f =
+      let steady = steady_condition (image n) (steady_image n) p l in
+      pair_in_order (opposite p) s (steady e) (steady f) (condition_stands (image n) (steady_image n) (image_stands n) p l e) from
 
-  pub under-in-order :
+  pub under_in_order :
       (f : Formula) (e : Effect) → UnderInOrder p s (image n p f) (condition (image n) p l e) (condition (image n) p l (under f e))
-  under-in-order f e = under-ordered (image n) (steady_image n) (image_stands n) p l s from f e
+  under_in_order f e = under_ordered (image n) (steady_image n) (image_stands n) p l s from f e
 
 -- Of variable v under effect e: A, then D; if neither is row 0, then N, and D becomes "D and N".
 pub changes_in_order :
@@ -109,7 +109,7 @@ pub changes_in_order :
     → Grows start s
     → ChangesInOrder s (condition (image n) plain (sets v) e) (condition (image n) plain (clears v) e) (condition (image n) negated (sets v) e)
     (changes_of (image n) e v)
-changes_in_order n e v s from = changes-ordered (image n) (steady_image n) (image_stands n) e v s from
+changes_in_order n e v s from = changes_ordered (image n) (steady_image n) (image_stands n) e v s from
 
 module _ (t : Task) where
   abbrev width : ℕ
@@ -125,16 +125,16 @@ module _ (t : Task) where
   goal = image width plain (formula_of t.formulas t.goal)
 
   -- For each operator: its precondition, then each source variable upwards.
-  pub operator-in-order :
+  pub operator_in_order :
       (o : ℕ) (s : St)
       → OperatorInOrder (length t.initial) s
       (image (length t.initial) plain (formula_of t.formulas (operator_of t o).precondition))
       (changes_of (image (length t.initial)) (effect_of_operator t o))
       (built_operator t o s).st
-  operator-in-order o s =
+  operator_in_order o s =
       record {
-        begins = unfold each give in variable-grows t o 0 s (omega arith);
-        upwards = λ v h. rw (← behind_each (changes_at o) v (precondition_of o s).st) (variable-grows t o v s h);
+        begins = unfold each give in variable_grows t o 0 s (omega arith);
+        upwards = λ v h. rw (← behind_each (changes_at o) v (precondition_of o s).st) (variable_grows t o v s h);
         ends = operator-ends;
       }
     where
@@ -142,13 +142,13 @@ module _ (t : Task) where
       operator-ends = unfold built_operator bind give in behind_each (changes_at o) width (precondition_of o s).st
 
   -- The operators in order; the goal is built last.
-  pub task-in-order :
+  pub task_in_order :
       TaskInOrder (length t.operators) start (built_operator t)
       (image (length t.initial) plain (formula_of t.formulas t.goal))
       (built t).st
-  task-in-order =
+  task_in_order =
       record {
-        in_order = λ o h. rw (← behind_each (built_operator t) o start) (operator-grows t o h);
+        in_order = λ o h. rw (← behind_each (built_operator t) o start) (operator_grows t o h);
         ends = task-ends;
       }
     where
@@ -156,12 +156,12 @@ module _ (t : Task) where
       task-ends = unfold built parts bind give in rw (behind_each (built_operator t) (length t.operators) start)
 
   -- What building ends with are the finished task's rows and twins.
-  pub building-is-finished : ((finished t).formulas ≡ (built t).st.rows) × ((finished t).originals ≡ (built t).st.twins)
+  pub building_is_finished : ((finished t).formulas ≡ (built t).st.rows) × ((finished t).originals ≡ (built t).st.twins)
   unfolding finished
-  building-is-finished = (refl, refl)
+  building_is_finished = (refl, refl)
 
   -- So of operator o and variable v: what is built there is built in order, and stands in the finished task.
-  pub finished-in-order :
+  pub finished_in_order :
       (o v : ℕ)
       → o < length t.operators
       → v < length t.initial
@@ -171,7 +171,7 @@ module _ (t : Task) where
       ChangesInOrder s (condition (image n) plain (sets v) e) (condition (image n) plain (clears v) e) (condition (image n) negated (sets v) e)
       (changes_of (image n) e v)
       × Grows (changes_of (image n) e v s).st (built t).st
-  finished-in-order o v h k = (
-    changes_in_order (length t.initial) (effect_of_operator t o) v (state_before t o v) (moment-from-start t o v),
-    moment-stands t o v h k,
+  finished_in_order o v h k = (
+    changes_in_order (length t.initial) (effect_of_operator t o) v (state_before t o v) (moment_from_start t o v),
+    moment_stands t o v h k,
   )

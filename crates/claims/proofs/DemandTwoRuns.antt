@@ -13,7 +13,7 @@ use Rattle.task.specs.Table.{Lent, Task, task_of}
 use Rattle.task.specs.Check.{refusal}
 use Rattle.task.specs.Semantics.{apply}
 use Rattle.task.specs.Run.{operator_of, effect_of_operator, goal_holds, applicable, charge, Progress, after_step, Stop, ended, stopped, Run, answer, run_on, plain_run, is_plan}
-use Rattle.task.proofs.Runs.{Does, none, more, Follows, charged, steps_done, ended-run, stopped-run, goal_told, each-follows, one_more, plan_exactly_if as plan-by-stop, length-after, becomes-one, becomes-zero, keeps}
+use Rattle.task.proofs.Runs.{Does, none, more, Follows, charged, steps_done, ended_run, stopped_run, goal_told, each_follows, one_more, plan_exactly_if as plan-by-stop, length_after, becomes_one, becomes_zero, keeps}
 use Rattle.file_format.specs.Reading.{accepted, reading}
 use Rattle.task.specs.Words.{padded}
 use Rattle.plan.specs.declared.outcome.End.TheVariants.{Ended, Refused}
@@ -72,7 +72,7 @@ refused_step_changes_nothing l s o scratch n e = rw e
 -- A step by 002: where nothing before its operator refuses it ..
 module _ (l : Lent) (s : List ℕ) (o : ℕ) (scratch : List ℕ) (early : early_refusal l s scratch ≡ 0) where
   -- .. an applicable operator is carried out: all variables change at once, and its cost is charged;
-  pub step-is-applied :
+  pub step_is_applied :
       o < length (task_of l).operators
       → applicable (task_of l) s o ≡ true
       → let after = apply s (effect_of_operator (task_of l) o) in
@@ -83,20 +83,20 @@ module _ (l : Lent) (s : List ℕ) (o : ℕ) (scratch : List ℕ) (early : early
         scratch = cleared scratch;
       }
   unfolding stepped step_by step_told plain_run run_on answer after_step
-  step-is-applied below may =
+  step_is_applied below may =
       rw (early, lt-ltb o (length (task_of l).operators) below, may, zero-add (charge (task_of l) s o))
 
   -- .. a number not below O gives 17, and one that is not applicable 18; the state stays.
-  pub step-outside : length (task_of l).operators ≤ o → stepped l s o scratch ≡ step_refused 17 s scratch
+  pub step_outside : length (task_of l).operators ≤ o → stepped l s o scratch ≡ step_refused 17 s scratch
   unfolding stepped step_by step_told plain_run run_on answer
-  step-outside past = rw (early, le-ltb o (length (task_of l).operators) past)
+  step_outside past = rw (early, le-ltb o (length (task_of l).operators) past)
 
-  pub step-not-applicable :
+  pub step_not_applicable :
       o < length (task_of l).operators
       → applicable (task_of l) s o ≡ false
       → stepped l s o scratch ≡ step_refused 18 s scratch
   unfolding stepped step_by step_told plain_run run_on answer
-  step-not-applicable below not = rw (early, lt-ltb o (length (task_of l).operators) below, not)
+  step_not_applicable below not = rw (early, lt-ltb o (length (task_of l).operators) below, not)
 
 -- The plain run, in the scope's own words: each claim is about every task, state and list of numbers.
 costs_done : {t : Task} {p q : Progress} {front : List ℕ} → Does t p front q → q.cost ≡ p.cost + costs t front
@@ -109,14 +109,14 @@ pub unstopped_run_does_all :
     (t : Task) (s numbers : List ℕ) → (plain_run t s numbers).stop ≡ ended → (plain_run t s numbers).steps ≡ length numbers
 unfolding answer
 unstopped_run_does_all t s numbers e =
-    let w = ended-run t s numbers e in
+    let w = ended_run t s numbers e in
     rw w.answers (omega (arith, steps_done w.done))
 
 pub cost_is_the_sum :
     (t : Task) (s numbers : List ℕ) → (plain_run t s numbers).stop ≡ ended → (plain_run t s numbers).cost ≡ costs t numbers
 unfolding answer
 cost_is_the_sum t s numbers e =
-    let w = ended-run t s numbers e in
+    let w = ended_run t s numbers e in
     rw w.answers (omega (arith, costs_done w.done))
 
 -- Each of its numbers was below O, with a true precondition in the state that those in front of it left ..
@@ -126,7 +126,7 @@ pub each_number_was_done :
     → Done t s front o
 unfolding answer
 each_number_was_done t s front o rest e =
-    let f = each-follows t s front o rest e in
+    let f = each_follows t s front o rest e in
     record {
       unstopped = ap (λ (r : Run). r.stop) f.before.answers;
       below = f.below;
@@ -139,9 +139,9 @@ unfolding effect_of_operator operator_of
 changed_by t s o =
     let e = effect_of_operator t o in
     record {
-      same_length = length-after s e;
-      set = becomes-one s e;
-      cleared = becomes-zero s e;
+      same_length = length_after s e;
+      set = becomes_one s e;
+      cleared = becomes_zero s e;
       kept = keeps s e;
     }
 
@@ -152,7 +152,7 @@ pub number_behind_is_done :
     (r.stop ≡ ended) × ChangedBy t o (plain_run t s front).state r.state
 unfolding answer after_step
 number_behind_is_done t s front o d =
-    let w = ended-run t s front d.unstopped in
+    let w = ended_run t s front d.unstopped in
     let f : Follows t s front o = record { before = w; below = d.below; permitted = rw w.answers at d.precondition } in
     rw (one_more t s front o f, w.answers) (refl, changed_by t w.at.state o)
 
@@ -166,7 +166,7 @@ pub stopped_where :
     (t : Task) (s numbers : List ℕ) (n : ℕ) → (plain_run t s numbers).stop ≡ stopped n → StoppedAt t s numbers n
 unfolding answer
 stopped_where t s numbers n e =
-    let h = stopped-run t s numbers e in
+    let h = stopped_run t s numbers e in
     let w = h.stops in
     record {
       front = w.front;
@@ -271,29 +271,29 @@ ended_by (stopped n) steps goal g e =
 
 module _ (l : Lent) (s numbers scratch : List ℕ) (free : run_refusal l s numbers scratch ≡ 0) where
   -- Its cost is that of the steps it tells.
-  pub call-cost-is-the-sum :
+  pub call_cost_is_the_sum :
       let w = ran l s numbers scratch in
       w.answer.cost ≡ costs (task_of l) (take w.answer.steps numbers)
   unfolding run_answer
-  call-cost-is-the-sum = rw (run_is_the_plain_run l s numbers scratch free) (cost_counts_steps_done (task_of l) s numbers)
+  call_cost_is_the_sum = rw (run_is_the_plain_run l s numbers scratch free) (cost_counts_steps_done (task_of l) s numbers)
 
   -- Whether the goal holds is told of the state that it leaves, after an end and after a stop alike.
-  pub goal-is-told :
+  pub goal_is_told :
       let w = ran l s numbers scratch in
       w.answer.goal ≡ goal_true (task_of l) w.state
   unfolding run_answer
-  goal-is-told = rw (run_is_the_plain_run l s numbers scratch free) (goal_told (task_of l) s numbers)
+  goal_is_told = rw (run_is_the_plain_run l s numbers scratch free) (goal_told (task_of l) s numbers)
 
   -- A run that is not stopped tells an end, with whether the goal holds in the state that the call leaves.
-  pub end-is-told :
+  pub end_is_told :
       (plain_run (task_of l) s numbers).stop ≡ ended
       → let w = ran l s numbers scratch in
       w.answer.end ≡ Ended (goal_true (task_of l) w.state)
   unfolding run_answer end_of
-  end-is-told e = rw (run_is_the_plain_run l s numbers scratch free) (rw (e, goal_told (task_of l) s numbers))
+  end_is_told e = rw (run_is_the_plain_run l s numbers scratch free) (rw (e, goal_told (task_of l) s numbers))
 
   -- An end with the goal flag: all numbers were done, for the sum of their costs, and the flag is the goal in the state that the call leaves.
-  pub ended-call :
+  pub ended_call :
       (g : Bool)
       → let w = ran l s numbers scratch in
       w.answer.end ≡ Ended g
@@ -301,7 +301,7 @@ module _ (l : Lent) (s numbers scratch : List ℕ) (free : run_refusal l s numbe
       × (w.answer.cost ≡ costs (task_of l) numbers)
       × (g ≡ goal_true (task_of l) w.state)
   unfolding run_answer
-  ended-call g =
+  ended_call g =
       let t = task_of l in
       let r = plain_run t s numbers in
       rw (run_is_the_plain_run l s numbers scratch free)
@@ -310,23 +310,23 @@ module _ (l : Lent) (s numbers scratch : List ℕ) (free : run_refusal l s numbe
       (unstopped_run_does_all t s numbers q.0, cost_is_the_sum t s numbers q.0, sym q.1 ∙ goal_told t s numbers))
 
   -- A stop tells its number and the steps done before it.
-  pub stop-is-told :
+  pub stop_is_told :
       (n : ℕ)
       → (plain_run (task_of l) s numbers).stop ≡ stopped n
       → StopTold (task_of l) s numbers n (ran l s numbers scratch)
   unfolding run_answer end_of
-  stop-is-told n e =
+  stop_is_told n e =
       let w = stopped_where (task_of l) s numbers n e in
       rw (run_is_the_plain_run l s numbers scratch free)
       (record { at = w; end = rw (e, w.counted); steps = w.counted; state = w.state })
 
   -- It tells a plan, an end with the goal true, exactly if the run was not stopped and the goal holds in the state that it leaves.
-  pub call-tells-a-plan-exactly-if :
+  pub call_tells_a_plan_exactly_if :
       let w = ran l s numbers scratch in
       w.answer.end ≡ Ended true
       ↔ ((plain_run (task_of l) s numbers).stop ≡ ended) × (goal_true (task_of l) w.state ≡ true)
   unfolding run_answer end_of
-  call-tells-a-plan-exactly-if =
+  call_tells_a_plan_exactly_if =
       let t = task_of l in
       let r = plain_run t s numbers in
       rw (run_is_the_plain_run l s numbers scratch free) (
@@ -339,11 +339,11 @@ module _ (l : Lent) (s numbers scratch : List ℕ) (free : run_refusal l s numbe
 -- The call of a step.
 module _ (l : Lent) (s : List ℕ) (o : ℕ) (scratch : List ℕ) where
   -- refusal 0: nothing refused it early, and the plain run of its one number is not stopped
-  done-by :
+  done_by :
       (stepped l s o scratch).answer.refusal ≡ 0
       → (early_refusal l s scratch ≡ 0) × ((plain_run (task_of l) s (o ∷ [])).stop ≡ ended)
   unfolding stepped step_by step_told step_refused
-  done-by = go (early_refusal l s scratch) refl (plain_run (task_of l) s (o ∷ [])).stop refl
+  done_by = go (early_refusal l s scratch) refl (plain_run (task_of l) s (o ∷ [])).stop refl
     where
       go :
           (k : ℕ)
@@ -362,11 +362,11 @@ module _ (l : Lent) (s : List ℕ) (o : ℕ) (scratch : List ℕ) where
           absurd (omega arith)
 
   -- Done, it tells one step, the cost in the operator's row, and whether the goal holds in the state that it leaves; all variables changed at once.
-  pub done-step-tells : (stepped l s o scratch).answer.refusal ≡ 0 → StepTold (task_of l) s o (stepped l s o scratch)
+  pub done_step_tells : (stepped l s o scratch).answer.refusal ≡ 0 → StepTold (task_of l) s o (stepped l s o scratch)
   unfolding stepped step_by step_told plain_run run_on answer
-  done-step-tells e =
+  done_step_tells e =
       let t = task_of l in
-      let w = done-by e in
+      let w = done_by e in
       let d : Done t s [] o = each_number_was_done t s [] o [] w.1 in
       rw (w.0, w.1)
       (record {

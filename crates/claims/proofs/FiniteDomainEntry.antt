@@ -15,12 +15,12 @@ use Rattle.task.specs.Table.{Task}
 use Rattle.task.specs.Check.{unless, counts_kept}
 use Rattle.task.specs.Rules.{Rules}
 use Rattle.task.specs.Words.{head_of, padded}
-use Rattle.task.proofs.Bounded.{and_left, and_right, length-upto, getD-upto}
+use Rattle.task.proofs.Bounded.{and_left, and_right, length_upto, getD_upto}
 use Rattle.finite_domain.specs.Table.{FiniteLent, finite_task_of}
 use Rattle.finite_domain.specs.Check.{finite_refusal}
-use Rattle.finite_domain.proofs.Kept.{finite-kept-rules, finite-rules-kept, finite-costs}
+use Rattle.finite_domain.proofs.Kept.{finite_kept_rules, finite_rules_kept, finite_costs}
 use Rattle.translation.specs.Translated.{translated}
-use Rattle.translation.proofs.Passed.{translated-rules, translated-untwinned}
+use Rattle.translation.proofs.Passed.{translated_rules, translated_untwinned}
 use Rattle.file_format.specs.Bytes.{file_of}
 use Rattle.file_format.specs.Reading.{accepted, reading}
 use Rattle.entry_tables.specs.Own.{own}
@@ -35,7 +35,7 @@ use Rattle.claims.proofs.Numbers.{given as given-rule, at_most, limits_kept, fil
 use Rattle.claims.proofs.Refusals.{all_zero, zero_past, words_past}
 use Rattle.claims.proofs.DemandTwoFiles.{reading_what_was_written}
 use Rattle.claims.proofs.DemandTwoProgram.{own_fits}
-use Rattle.claims.proofs.FiniteDomainNumbers.{finite-given}
+use Rattle.claims.proofs.FiniteDomainNumbers.{finite_given}
 use Rattle.claims.proofs.FiniteDomainTranslating.{behind_finite}
 
 -- the number of an entry: what came before the outputs were looked at, then 20
@@ -68,9 +68,9 @@ all_told a c n m = go a c n (behind_finite n (unless c 15 0))
 
 module _ (bytes : List ℕ) (o r : ℕ) where
   -- The number that is given is that of the first rule in order that is broken.
-  pub translate-entry-gives-the-first : translate_entry_numbers bytes o r (translate_entry bytes o r).number
+  pub translate_entry_gives_the_first : translate_entry_numbers bytes o r (translate_entry bytes o r).number
   unfolding translate_entry translate_entry_number translate_number
-  translate-entry-gives-the-first =
+  translate_entry_gives_the_first =
       let l = tables_of bytes in
       let u = translated (finite_task_of l) in
       let n = length (file_of u) in
@@ -79,14 +79,14 @@ module _ (bytes : List ℕ) (o r : ℕ) where
         all_told (leb 12 (length bytes)) (counts_kept (head_of u)) (finite_refusal l) (unless (leb n o && leb 4 r) 20 0),
       )
       (given-rule (leb 12 (length bytes)) 5 _ (at_most 12 (length bytes)) (λ _.
-      finite-given l _ _
+      finite_given l _ _
       (given-rule (counts_kept (head_of u)) 15 _ (limits_kept u) (λ _.
       given-rule (leb n o && leb 4 r) 20 0 (file_tested u o r) (λ _. refl)))))
 
   -- .. and 0 exactly if all are kept
-  pub translated-for-c-exactly-if : (translate_entry bytes o r).number ≡ 0 ↔ TranslateEntryKept bytes o r
+  pub translated_for_c_exactly_if : (translate_entry bytes o r).number ≡ 0 ↔ TranslateEntryKept bytes o r
   unfolding translate_entry translate_entry_number translate_number
-  translated-for-c-exactly-if = (told, kept)
+  translated_for_c_exactly_if = (told, kept)
     where
       l : FiniteLent
       l = tables_of bytes
@@ -115,7 +115,7 @@ module _ (bytes : List ℕ) (o r : ℕ) where
           → unless a 5 (or_else n (unless b 15 (unless c 20 0))) ≡ 0
           → TranslateEntryKept bytes o r
       parts true e zero f true g true h z =
-          let k = finite-kept-rules l f in
+          let k = finite_kept_rules l f in
           record {
             head_there = leb-true 12 (length bytes) e;
             long = k.0;
@@ -138,16 +138,16 @@ module _ (bytes : List ℕ) (o r : ℕ) where
           number
           ∙ rw (
             le-leb 12 (length bytes) k.head_there,
-            finite-rules-kept l k.long k.rules,
+            finite_rules_kept l k.long k.rules,
             (limits_kept u).1 k.limits,
             (file_tested u o r).1 k.outputs,
           )
           (unfold or_else in refl)
 
   -- What the entry leaves.
-  pub translate-entry-leaves : TranslateEntryLeaves bytes o r (translate_entry bytes o r)
+  pub translate_entry_leaves : TranslateEntryLeaves bytes o r (translate_entry bytes o r)
   unfolding translate_entry compiled_file_by filed filed_by padded
-  translate-entry-leaves = by_number (translate_entry_number bytes)
+  translate_entry_leaves = by_number (translate_entry_number bytes)
     where
       u : Task
       u = translated (finite_task_of (tables_of bytes))
@@ -200,8 +200,8 @@ unfolding words_from
 words_part l k n b i = words_taken n (drop k l) (words_dropped k l b) i
 
 module _ (bytes : List ℕ) (each : OfBytes bytes) where
-  byte-below : (i : ℕ) → get_or bytes i 0 < 256
-  byte-below i = go (dec_lt i (length bytes))
+  byte_below : (i : ℕ) → get_or bytes i 0 < 256
+  byte_below i = go (dec_lt i (length bytes))
     where
       go : Dec (i < length bytes) → get_or bytes i 0 < 256
       go (yes h) = each.byte i h
@@ -218,33 +218,33 @@ module _ (bytes : List ℕ) (each : OfBytes bytes) where
       f i = get_or bytes (2 * i) 0 + 256 * get_or bytes (2 * i + 1) 0
 
       go : Dec (i < n) → get_or (upto n f) i 0 < 65536
-      go (yes h) = rw (getD-upto n f i 0 h) (omega (arith, byte-below (2 * i), byte-below (2 * i + 1)))
-      go (no m) = rw (get_or-eq_default (upto n f) 0 {n = i} (omega (arith, m, length-upto n f))) (omega arith)
+      go (yes h) = rw (getD_upto n f i 0 h) (omega (arith, byte_below (2 * i), byte_below (2 * i + 1)))
+      go (no m) = rw (get_or-eq_default (upto n f) 0 {n = i} (omega (arith, m, length_upto n f))) (omega arith)
 
-  entry-words : FiniteWords (tables_of bytes)
+  entry_words : FiniteWords (tables_of bytes)
   unfolding tables_of tables_in
-  entry-words = record { operators = λ i h. words_part (numbers_of bytes) _ _ word_below i }
+  entry_words = record { operators = λ i h. words_part (numbers_of bytes) _ _ word_below i }
 
   -- A task that the entry translated keeps 01's rules and has no twins ..
-  pub translated-for-c-keeps-the-rules :
+  pub translated_for_c_keeps_the_rules :
       (o r : ℕ)
       → (translate_entry bytes o r).number ≡ 0
       → let u = translated (finite_task_of (tables_of bytes)) in
       Rules u × (length u.originals ≡ 0)
-  translated-for-c-keeps-the-rules o r z =
+  translated_for_c_keeps_the_rules o r z =
       let t = finite_task_of (tables_of bytes) in
-      let k = (translated-for-c-exactly-if bytes o r).0 z in (
-        translated-rules t k.rules (finite-costs (tables_of bytes) entry-words.operators k.long) k.limits,
-        ap length (translated-untwinned t),
+      let k = (translated_for_c_exactly_if bytes o r).0 z in (
+        translated_rules t k.rules (finite_costs (tables_of bytes) entry_words.operators k.long) k.limits,
+        ap length (translated_untwinned t),
       )
 
   -- .. so the file that it gave is read, as that task, by every entry that takes a file.
-  pub translated-file-is-read :
+  pub translated_file_is_read :
       (o r : ℕ)
       → (translate_entry bytes o r).number ≡ 0
       → let u = translated (finite_task_of (tables_of bytes)) in
       reading own (file_of u) ≡ accepted u
-  translated-file-is-read o r z =
+  translated_file_is_read o r z =
       let u = translated (finite_task_of (tables_of bytes)) in
-      let rules = (translated-for-c-keeps-the-rules o r z).0 in
+      let rules = (translated_for_c_keeps_the_rules o r z).0 in
       reading_what_was_written own u rules (own_fits u rules)

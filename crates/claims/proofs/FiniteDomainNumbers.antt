@@ -14,7 +14,7 @@ use Rattle.task.specs.Table.{Row, Operator, Task, formula_kind, effect_kind, row
 use Rattle.task.specs.Check.{goal_kept, operator_kept, percent_kept, operator_number, unless}
 use Rattle.task.specs.Rules.{no_row, Rules}
 use Rattle.task.specs.Words.{words_of, operator_words, lent_of}
-use Rattle.task.proofs.Bounded.{first_at, length-upto, getD-upto}
+use Rattle.task.proofs.Bounded.{first_at, length_upto, getD_upto}
 use Rattle.task.proofs.Sixteen.{rules_with_costs, words_lent}
 use Rattle.task.proofs.Words.{length_words, length_operator_words, rows_read, operators_read}
 use Rattle.task.proofs.RowRules.{formula_told, formula_passes, effect_told, effect_passes}
@@ -23,8 +23,8 @@ use Rattle.finite_domain.specs.Table.{FiniteLent, FiniteTask, finite_task_of, fi
 use Rattle.finite_domain.specs.Check.{finite_counts_kept, finite_long_enough, value_counts_kept, value_kept, initial_values_kept, finite_formula_kept, formula_value_kept, finite_formula_number}
 use Rattle.finite_domain.specs.Check.{finite_effect_kept, effect_value_kept, finite_effect_number, finite_formulas_number, finite_effects_number, finite_operators_number, finite_refusal}
 use Rattle.finite_domain.specs.Rules.{FiniteRules, FiniteCosts, FiniteLongEnough}
-use Rattle.finite_domain.proofs.Kept.{finite-kept-rules, finite-rules-kept, finite-costs}
-use Rattle.finite_domain.proofs.Passed.{finite_counts_tested, finite-lengths-tested, values-tested, initial-values-tested}
+use Rattle.finite_domain.proofs.Kept.{finite_kept_rules, finite_rules_kept, finite_costs}
+use Rattle.finite_domain.proofs.Passed.{finite_counts_tested, finite_lengths_tested, values_tested, initial_values_tested}
 use Rattle.claims.specs.Numbers.{Given, broken, keeps, no_rule_left}
 use Rattle.claims.specs.FiniteDomain.{FiniteWords, finite_tables, FiniteCounts, CountRule, FormulaPlace, EffectPlace, FormulaValue, EffectValue, RowByRow, row_breaks, rows_keep, finite_numbers}
 use Rattle.claims.proofs.Numbers.{given, below, parts_tested, percent_tested, first_found}
@@ -40,36 +40,36 @@ pub finite_accepted_exactly_if :
     × FiniteCosts (finite_task_of l)
 finite_accepted_exactly_if l words = (
   λ e.
-      let k = finite-kept-rules l e in
-      (k.0, k.1, finite-costs l words.operators k.0),
-  λ p. finite-rules-kept l p.0 p.1,
+      let k = finite_kept_rules l e in
+      (k.0, k.1, finite_costs l words.operators k.0),
+  λ p. finite_rules_kept l p.0 p.1,
 )
 
 -- Every task that keeps the rules is accepted: its tables, written out word by word, have words that can be lent, get 0 and hold that task.
 module _ (t : FiniteTask) where
-  rows-there : (rows : List Row) → upto (length rows) (row_at (words_of rows)) ≡ rows
-  rows-there rows =
+  rows_there : (rows : List Row) → upto (length rows) (row_at (words_of rows)) ≡ rows
+  rows_there rows =
       ap (λ (w : List ℕ). upto (length rows) (row_at w)) (sym (append-nil (words_of rows))) ∙ rows_read rows []
 
   operators_there : (rows : List Operator) → upto (length rows) (operator_at (operator_words rows)) ≡ rows
   operators_there rows =
       ap (λ (w : List ℕ). upto (length rows) (operator_at w)) (sym (append-nil (operator_words rows))) ∙ operators_read rows []
 
-  tables-hold : length t.initial ≡ length t.counts → finite_task_of (finite_tables t) ≡ t
+  tables_hold : length t.initial ≡ length t.counts → finite_task_of (finite_tables t) ≡ t
   unfolding finite_task_of
-  tables-hold width =
+  tables_hold width =
       λ j.
       record {
         counts = take-length t.counts j;
         initial = (ap (λ (k : ℕ). take k t.initial) (sym width) ∙ take-length t.initial) j;
-        formulas = rows-there t.formulas j;
-        effects = rows-there t.effects j;
+        formulas = rows_there t.formulas j;
+        effects = rows_there t.effects j;
         operators = operators_there t.operators j;
         goal = t.goal;
       }
 
-  tables-long : length t.initial ≡ length t.counts → FiniteLongEnough (finite_tables t)
-  tables-long width =
+  tables_long : length t.initial ≡ length t.counts → FiniteLongEnough (finite_tables t)
+  tables_long width =
       record {
         no_twins = refl;
         counts = omega arith;
@@ -97,13 +97,13 @@ module _ (t : FiniteTask) where
         goal = 0;
       }
 
-  plain-rules : FiniteRules t → FiniteCosts t → Rules plain_rows
+  plain_rules : FiniteRules t → FiniteCosts t → Rules plain_rows
   unfolding plain_rows formula_kind effect_kind
-  plain-rules rules costs =
+  plain_rules rules costs =
       let n = length t.formulas in
       let m = length t.effects in
-      let there = length-upto n all_true in
-      let also = length-upto m all_empty in
+      let there = length_upto n all_true in
+      let also = length_upto m all_empty in
       rules_with_costs plain_rows
       (record {
         limits =
@@ -121,29 +121,29 @@ module _ (t : FiniteTask) where
         formula =
             λ i h.
             let b : i < n = rw there at h in
-            rw (getD-upto n all_true i no_row b) (refl, refl);
+            rw (getD_upto n all_true i no_row b) (refl, refl);
         effect =
             λ i h.
             let b : i < m = rw also at h in
-            rw (getD-upto m all_empty i no_row b) (refl, refl);
+            rw (getD_upto m all_empty i no_row b) (refl, refl);
         operator = λ i h. rw (there, also) (rules.operator i h);
       })
       (λ i h. omega (arith, costs.cost i h))
 
-  tables-words : FiniteRules t → FiniteCosts t → FiniteWords (finite_tables t)
-  tables-words rules costs =
-      record { operators = unfold plain_rows lent_of in (words_lent plain_rows (plain-rules rules costs)).operators }
+  tables_words : FiniteRules t → FiniteCosts t → FiniteWords (finite_tables t)
+  tables_words rules costs =
+      record { operators = unfold plain_rows lent_of in (words_lent plain_rows (plain_rules rules costs)).operators }
 
-  pub every-finite-task-accepted :
+  pub every_finite_task_accepted :
       FiniteRules t
       → FiniteCosts t
       → FiniteWords (finite_tables t)
       × (finite_refusal (finite_tables t) ≡ 0)
       × (finite_task_of (finite_tables t) ≡ t)
-  every-finite-task-accepted rules costs =
-      let held = tables-hold rules.width in (
-        tables-words rules costs,
-        finite-rules-kept (finite_tables t) (tables-long rules.width) (rw held rules),
+  every_finite_task_accepted rules costs =
+      let held = tables_hold rules.width in (
+        tables_words rules costs,
+        finite_rules_kept (finite_tables t) (tables_long rules.width) (rw held rules),
         held,
       )
 
@@ -155,8 +155,8 @@ module _
     row_number : ℕ → ℕ
     row_number i = unless (a i) (suc x) (unless (b i) (suc y) 0)
 
-    row-passed : (i : ℕ) → row_number i ≡ 0 → one i × other i
-    row-passed i e = go (a i) refl (b i) refl (unfold row_number in e)
+    row_passed : (i : ℕ) → row_number i ≡ 0 → one i × other i
+    row_passed i e = go (a i) refl (b i) refl (unfold row_number in e)
       where
         go : (p : Bool) → a i ≡ p → (q : Bool) → b i ≡ q → unless p (suc x) (unless q (suc y) 0) ≡ 0 → one i × other i
         go true f true g e = ((first i).0 f, (second i).0 g)
@@ -177,18 +177,18 @@ module _
         go true f false g e = keeps ((first i).0 f) (broken (λ r. false≢true (sym g ∙ (second i).1 r)) (sym e))
         go false f q g e = broken (λ r. false≢true (sym f ∙ (first i).1 r)) (sym e)
 
-    rows-given :
+    rows_given :
         (behind : ℕ → Type 0) (m : ℕ)
         → behind m
         → RowByRow n one (suc x) other (suc y) behind (or_else (first_number n row_number) m)
     unfolding or_else
-    rows-given behind m rest = go (first_number n row_number) refl
+    rows_given behind m rest = go (first_number n row_number) refl
       where
         go : (r : ℕ) → first_number n row_number ≡ r → RowByRow n one (suc x) other (suc y) behind (or_else r m)
-        go zero q = rows_keep (λ i h. row-passed i (first_at n row_number q i h)) rest
+        go zero q = rows_keep (λ i h. row_passed i (first_at n row_number q i h)) rest
         go (suc r) q =
             let w = first_found n row_number r q in
-            row_breaks w.at w.below (λ k h. row-passed k (w.clear k h)) (row_broken w.at r w.here)
+            row_breaks w.at w.below (λ k h. row_passed k (w.clear k h)) (row_broken w.at r w.here)
 
 -- the tests of a row, kind by kind
 formula_place_tested : (v i : ℕ) (k : FormulaKind) (a b : ℕ) → finite_formula_kept v i k a b ≡ true ↔ FormulaPlace v i k a b
@@ -267,18 +267,18 @@ finite_first true true true true false r m = refl
 finite_first true true true true true r m = refl
 
 module _ (l : FiniteLent) where
-  counts-given : finite_counts_kept l.head ≡ true ↔ FiniteCounts l.head
-  counts-given = (
+  counts_given : finite_counts_kept l.head ≡ true ↔ FiniteCounts l.head
+  counts_given = (
     λ e.
         let c = (finite_counts_tested l.head).0 e in
         record { variables = c.0; no_twins = c.1; limits = c.2 },
     λ r. (finite_counts_tested l.head).1 (r.variables, r.no_twins, r.limits),
   )
 
-  lengths-given : l.head.twins ≡ 0 → finite_long_enough l ≡ true ↔ FiniteLongEnough l
-  lengths-given no_twins = (
+  lengths_given : l.head.twins ≡ 0 → finite_long_enough l ≡ true ↔ FiniteLongEnough l
+  lengths_given no_twins = (
     λ e.
-        let r = (finite-lengths-tested l).0 e in
+        let r = (finite_lengths_tested l).0 e in
         record {
           no_twins = no_twins;
           counts = r.counts;
@@ -288,7 +288,7 @@ module _ (l : FiniteLent) where
           operators = r.operators;
         },
     λ r.
-        (finite-lengths-tested l).1
+        (finite_lengths_tested l).1
         (record {
           counts = r.counts;
           initial = r.initial;
@@ -298,18 +298,18 @@ module _ (l : FiniteLent) where
         }),
   )
 
-  values-given : value_counts_kept l ≡ true ↔ ((a : ℕ) → a < l.head.variables → CountRule (get_or l.counts a 0))
-  values-given = (
+  values_given : value_counts_kept l ≡ true ↔ ((a : ℕ) → a < l.head.variables → CountRule (get_or l.counts a 0))
+  values_given = (
     λ e a h.
-        let r = (values-tested l).0 e a h in
+        let r = (values_tested l).0 e a h in
         record { low = r.0; high = r.1 },
-    λ r. (values-tested l).1 (λ a h. ((r a h).low, (r a h).high)),
+    λ r. (values_tested l).1 (λ a h. ((r a h).low, (r a h).high)),
   )
 
   -- the tables' own numbers, and what stands behind them
-  pub finite-given : (behind : ℕ → Type 0) (m : ℕ) → behind m → finite_numbers l behind (or_else (finite_refusal l) m)
+  pub finite_given : (behind : ℕ → Type 0) (m : ℕ) → behind m → finite_numbers l behind (or_else (finite_refusal l) m)
   unfolding finite_refusal finite_formulas_number finite_effects_number finite_operators_number finite_formula_number finite_effect_number operator_number row_number
-  finite-given behind m rest =
+  finite_given behind m rest =
       let v = l.head.variables in
       let f = l.head.formulas in
       let e = l.head.effects in
@@ -319,26 +319,26 @@ module _ (l : FiniteLent) where
         or_else_joined (finite_formulas_number l) (or_else (finite_effects_number l) (finite_operators_number l)) m,
         or_else_joined (finite_effects_number l) (finite_operators_number l) m,
       )
-      (given (finite_counts_kept l.head) 6 _ counts-given (λ r6.
+      (given (finite_counts_kept l.head) 6 _ counts_given (λ r6.
       given (goal_kept l.head) 7 _ (goal_tested l.head) (λ r7.
-      given (finite_long_enough l) 5 _ (lengths-given r6.no_twins) (λ r5.
-      given (value_counts_kept l) 25 _ values-given (λ r25.
-      given (initial_values_kept l) 26 _ (initial-values-tested l) (λ r26.
-      rows-given f 9 25
+      given (finite_long_enough l) 5 _ (lengths_given r6.no_twins) (λ r5.
+      given (value_counts_kept l) 25 _ values_given (λ r25.
+      given (initial_values_kept l) 26 _ (initial_values_tested l) (λ r26.
+      rows_given f 9 25
       (λ i. let r = row_at l.formulas i in finite_formula_kept v i (finite_formula_kind r.kind) r.a r.b)
       (λ i. let r = row_at l.formulas i in formula_value_kept l.counts (finite_formula_kind r.kind) r.a r.b)
       _ _
       (λ i. let r = row_at l.formulas i in formula_place_tested v i (finite_formula_kind r.kind) r.a r.b)
       (λ i. let r = row_at l.formulas i in formula_value_tested l.counts (finite_formula_kind r.kind) r.a r.b)
       _ _
-      (rows-given e 10 25
+      (rows_given e 10 25
       (λ i. let r = row_at l.effects i in finite_effect_kept v f i (finite_effect_kind r.kind) r.a r.b)
       (λ i. let r = row_at l.effects i in effect_value_kept l.counts (finite_effect_kind r.kind) r.a r.b)
       _ _
       (λ i. let r = row_at l.effects i in effect_place_tested v f i (finite_effect_kind r.kind) r.a r.b)
       (λ i. let r = row_at l.effects i in effect_value_tested l.counts (finite_effect_kind r.kind) r.a r.b)
       _ _
-      (rows-given l.head.operators 11 23 (λ i. operator_kept f e (operator_at l.operators i)) (λ i. percent_kept (operator_at l.operators i))
+      (rows_given l.head.operators 11 23 (λ i. operator_kept f e (operator_at l.operators i)) (λ i. percent_kept (operator_at l.operators i))
       _ _
       (λ i. parts_tested f e (operator_at l.operators i))
       (λ i. percent_tested (operator_at l.operators i))
@@ -351,4 +351,4 @@ alone (suc n) = refl
 
 -- The check of finite-domain tables.
 pub finite_check_gives_the_first : (l : FiniteLent) → finite_numbers l no_rule_left (finite_refusal l)
-finite_check_gives_the_first l = rw (alone (finite_refusal l)) at (finite-given l no_rule_left 0 refl)
+finite_check_gives_the_first l = rw (alone (finite_refusal l)) at (finite_given l no_rule_left 0 refl)

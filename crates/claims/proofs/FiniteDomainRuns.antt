@@ -16,7 +16,7 @@ use Rattle.task.specs.Run.{applicable, Progress, plain_run, is_plan}
 use Rattle.task.proofs.Bounded.{and_left, and_right, and_both, every_at, every_from, every_same}
 use Rattle.normal_form.specs.Finished.{finished}
 use Rattle.normal_form.specs.Compiled.{Room, compiled_head, compiling, given}
-use Rattle.normal_form.proofs.Compiled.{given-task as given-compiled}
+use Rattle.normal_form.proofs.Compiled.{given_task as given-compiled}
 use Rattle.normal_form.proofs.Demand.{outside}
 use Rattle.finite_domain.specs.Table.{FiniteLent, FiniteTask, finite_task_of}
 use Rattle.finite_domain.specs.Rules.{FiniteRules}
@@ -28,11 +28,11 @@ use Rattle.translation.specs.Translated.{translated}
 use Rattle.translation.specs.Translating.{translating}
 use Rattle.translation.proofs.States.{finite_apply_at, length_finite_apply, initial_state}
 use Rattle.translation.proofs.EffectMeaning.{value_found, value_kept}
-use Rattle.translation.proofs.Passed.{translated-initial, translated-operators}
-use Rattle.translation.proofs.Alike.{same-applicable, translated-alike, translated-alike-initial}
-use Rattle.translation.proofs.BothStages.{compiled-alike, compiled-initial, compiled-alike-initial}
+use Rattle.translation.proofs.Passed.{translated_initial, translated_operators}
+use Rattle.translation.proofs.Alike.{same_applicable, translated_alike, translated_alike_initial}
+use Rattle.translation.proofs.BothStages.{compiled_alike, compiled_initial, compiled_alike_initial}
 use Rattle.claims.specs.FiniteDomain.{FiniteWords, Translates, FiniteOutside, FiniteRunsAlike, BothStagesAlike, TwoValues, StopsHere, MayBeDone, FiniteChanged, FiniteStepDone}
-use Rattle.claims.proofs.FiniteDomainTranslating.{given-task, given-translates}
+use Rattle.claims.proofs.FiniteDomainTranslating.{given_task, given_translates}
 
 -- A number outside the task.
 finite_outside : (t : FiniteTask) (o : ℕ) → length t.operators ≤ o → FiniteOutside t o
@@ -45,12 +45,12 @@ finite_outside t o h =
 pub finite_runs_alike : (t : FiniteTask) → FiniteRules t → FiniteRunsAlike t (translated t)
 finite_runs_alike t rules =
     record {
-      runs = λ s numbers state. translated-alike t rules s state numbers;
-      initially = translated-initial t;
+      runs = λ s numbers state. translated_alike t rules s state numbers;
+      initially = translated_initial t;
       initial_state = initial_state t rules;
       outside =
           λ o h.
-          let there : length (translated t).operators ≤ o = rw (translated-operators t) h in
+          let there : length (translated t).operators ≤ o = rw (translated_operators t) h in
           (finite_outside t o h, (outside (translated t) o there).0);
     }
 
@@ -60,18 +60,18 @@ pub one_flag_for_each_variable :
     → FiniteRules t
     → (numbers : List ℕ)
     → OneFlagEach t.counts (plain_run (translated t) (translated t).initial numbers).state
-one_flag_for_each_variable t rules numbers = (translated-alike-initial t rules numbers).one_each
+one_flag_for_each_variable t rules numbers = (translated_alike_initial t rules numbers).one_each
 
 -- The same through both stages. The compiled task's limits are not needed.
 pub through_both_stages : (t : FiniteTask) → Translates t → BothStagesAlike t (finished (translated t))
 through_both_stages t c =
     record {
-      runs = λ s k numbers state states. compiled-alike t c.rules c.room s k state states numbers;
-      initially = compiled-initial t c.rules c.room;
+      runs = λ s k numbers state states. compiled_alike t c.rules c.room s k state states numbers;
+      initially = compiled_initial t c.rules c.room;
       initial_state = initial_state t c.rules;
       outside =
           λ o h.
-          let there : length (translated t).operators ≤ o = rw (translated-operators t) h in
+          let there : length (translated t).operators ≤ o = rw (translated_operators t) h in
           (finite_outside t o h, (outside (translated t) o there).1);
     }
 
@@ -85,23 +85,23 @@ pub same_plans_through_both :
     let r' = plain_run (finished (translated t)) (finished (translated t)).initial numbers in
     (is_plan r ≡ is_plan r') × (r.cost ≡ r'.cost)
 same_plans_through_both t c numbers =
-    let a = (compiled-alike-initial t c.rules c.room numbers).answers in
+    let a = (compiled_alike_initial t c.rules c.room numbers).answers in
     (a.plan, a.cost)
 
 -- Of the calls: the tables that translating gave run alike, and so do those that compiling gave of them.
 module _ (l : FiniteLent) (words : FiniteWords l) (room : Room) (h : Head) (success : (translating l room).answer ≡ compiled_head h) where
-  pub given-finite-runs-alike : FiniteRunsAlike (finite_task_of l) (task_of (given h (translating l room)))
-  given-finite-runs-alike =
-      rw (given-task l room h success) (finite_runs_alike (finite_task_of l) (given-translates l room h success words).rules)
+  pub given_finite_runs_alike : FiniteRunsAlike (finite_task_of l) (task_of (given h (translating l room)))
+  given_finite_runs_alike =
+      rw (given_task l room h success) (finite_runs_alike (finite_task_of l) (given_translates l room h success words).rules)
 
-  pub through-both-calls :
+  pub through_both_calls :
       (room' : Room) (h' : Head)
       → let flagged = given h (translating l room) in
       (compiling flagged room').answer ≡ compiled_head h'
       → BothStagesAlike (finite_task_of l) (task_of (given h' (compiling flagged room')))
-  through-both-calls room' h' compiled =
-      rw (given-compiled (given h (translating l room)) room' h' compiled, given-task l room h success)
-      (through_both_stages (finite_task_of l) (given-translates l room h success words))
+  through_both_calls room' h' compiled =
+      rw (given-compiled (given h (translating l room)) room' h' compiled, given_task l room h success)
+      (through_both_stages (finite_task_of l) (given_translates l room h success words))
 
 -- A step that would give a variable two values.
 module _ (t : FiniteTask) (s : List ℕ) (o : ℕ) where
@@ -113,7 +113,7 @@ module _ (t : FiniteTask) (s : List ℕ) (o : ℕ) where
   clashes a d d' p q = and_both p q
 
   -- two values in order
-  no-two-in-order :
+  no_two_in_order :
       (a d d' : ℕ)
       → consistent t.counts s e ≡ true
       → a < length t.counts
@@ -123,7 +123,7 @@ module _ (t : FiniteTask) (s : List ℕ) (o : ℕ) where
       → finite_effcond s a d' e ≡ true
       → ⊥
   unfolding consistent
-  no-two-in-order a d d' ok h low high p q =
+  no_two_in_order a d d' ok h low high p q =
       let one =
       every_at d' (λ d. not (clash s e a d d'))
       (every_at (get_or t.counts a 0) (λ d'. every d' (λ d. not (clash s e a d d')))
@@ -133,19 +133,19 @@ module _ (t : FiniteTask) (s : List ℕ) (o : ℕ) where
       in
       false≢true (sym (ap not (clashes a d d' p q)) ∙ one)
 
-  consistent-no-two : consistent t.counts s (finite_effect_of_operator t o) ≡ true → TwoValues t s o → ⊥
+  consistent_no_two : consistent t.counts s (finite_effect_of_operator t o) ≡ true → TwoValues t s o → ⊥
   unfolding e
-  consistent-no-two ok w = go (dec_lt w.one w.other)
+  consistent_no_two ok w = go (dec_lt w.one w.other)
     where
       go : Dec (w.one < w.other) → ⊥
-      go (yes h) = no-two-in-order w.variable w.one w.other ok w.there h w.other_below w.gives_one w.gives_other
+      go (yes h) = no_two_in_order w.variable w.one w.other ok w.there h w.other_below w.gives_one w.gives_other
       go (no n) =
-          no-two-in-order w.variable w.other w.one ok w.there (omega (arith, n, w.differ)) w.one_below
+          no_two_in_order w.variable w.other w.one ok w.there (omega (arith, n, w.differ)) w.one_below
           w.gives_other w.gives_one
 
-  no-two-consistent : (TwoValues t s o → ⊥) → consistent t.counts s (finite_effect_of_operator t o) ≡ true
+  no_two_consistent : (TwoValues t s o → ⊥) → consistent t.counts s (finite_effect_of_operator t o) ≡ true
   unfolding consistent clash
-  no-two-consistent none =
+  no_two_consistent none =
       every_from (length t.counts) (λ a. every (get_or t.counts a 0) (λ d'. every d' (λ d. not (clash s f a d d')))) (λ a h.
       every_from (get_or t.counts a 0) (λ d'. every d' (λ d. not (clash s f a d d'))) (λ d' high.
       every_from d' (λ d. not (clash s f a d d')) (λ d low.
@@ -181,13 +181,13 @@ module _ (t : FiniteTask) (s : List ℕ) (o : ℕ) where
       apart a d d' h low high true x false y = rw (x, y)
       apart a d d' h low high false x q y = rw x
 
-  applicable-parts :
+  applicable_parts :
       finite_applicable t s o ≡ true
       → (o < length t.operators)
       × (finite_holds s (finite_formula_of t.formulas (finite_operator_of t o).precondition) ≡ true)
       × (consistent t.counts s (finite_effect_of_operator t o) ≡ true)
   unfolding finite_applicable
-  applicable-parts q =
+  applicable_parts q =
       let inside = ltb o (length t.operators) in
       let pre = finite_holds s (finite_formula_of t.formulas (finite_operator_of t o).precondition) in
       let single = consistent t.counts s (finite_effect_of_operator t o) in
@@ -198,20 +198,20 @@ module _ (t : FiniteTask) (s : List ℕ) (o : ℕ) where
       )
 
   -- An operator is applicable exactly if its number is one of the task's, its precondition holds and no variable would get two values.
-  pub applicable-exactly-if : finite_applicable t s o ≡ true ↔ MayBeDone t s o
+  pub applicable_exactly_if : finite_applicable t s o ≡ true ↔ MayBeDone t s o
   unfolding finite_applicable
-  applicable-exactly-if = (
+  applicable_exactly_if = (
     λ q.
-        let p = applicable-parts q in
-        record { inside = p.0; precondition = p.1; single = consistent-no-two p.2 },
-    λ m. and_both (lt-ltb o (length t.operators) m.inside) (and_both m.precondition (no-two-consistent m.single)),
+        let p = applicable_parts q in
+        record { inside = p.0; precondition = p.1; single = consistent_no_two p.2 },
+    λ m. and_both (lt-ltb o (length t.operators) m.inside) (and_both m.precondition (no_two_consistent m.single)),
   )
 
-  two-not-applicable : TwoValues t s o → finite_applicable t s o ≡ false
-  two-not-applicable w = go (finite_applicable t s o) refl
+  two_not_applicable : TwoValues t s o → finite_applicable t s o ≡ false
+  two_not_applicable w = go (finite_applicable t s o) refl
     where
       go : (b : Bool) → finite_applicable t s o ≡ b → finite_applicable t s o ≡ false
-      go true q = absurd (consistent-no-two (applicable-parts q).2 w)
+      go true q = absurd (consistent_no_two (applicable_parts q).2 w)
       go false q = q
 
 -- What is assigned in a consistent step stands afterwards, and every other value stays.
@@ -269,7 +269,7 @@ finite_step_is_applied t p o m =
       state = consistent_changes t p.state o m.single;
       steps = refl;
       cost = refl;
-      goes_on = λ rest. rw (lt-ltb o (length t.operators) m.inside, (applicable-exactly-if t p.state o).1 m);
+      goes_on = λ rest. rw (lt-ltb o (length t.operators) m.inside, (applicable_exactly_if t p.state o).1 m);
     }
 
 -- "A step that would give a variable two values is not applicable": a run stops there with 18, whatever stands behind it ..
@@ -277,7 +277,7 @@ pub clash_stops :
     (t : FiniteTask) (p : Progress) (o : ℕ) → o < length t.operators → TwoValues t p.state o → StopsHere t p o
 unfolding finite_run_on
 clash_stops t p o h w =
-    let e = two-not-applicable t p.state o w in
+    let e = two_not_applicable t p.state o w in
     record { not_applicable = e; stops = λ rest. rw (lt-ltb o (length t.operators) h, e) }
 
 -- .. and so does the run of the translated task, from the state's flags.
@@ -288,7 +288,7 @@ pub clash_not_applicable_in_flags :
     → o < length t.operators
     → TwoValues t s o
     → applicable (translated t) (flags_of t.counts s) o ≡ false
-clash_not_applicable_in_flags t rules s o h w = same-applicable t rules s o h ∙ two-not-applicable t s o w
+clash_not_applicable_in_flags t rules s o h w = same_applicable t rules s o h ∙ two_not_applicable t s o w
 
 -- The same value twice is none: an effect joined with itself gives a variable two values exactly if the effect does, and "a becomes d, and a becomes d" never.
 module _ (counts s : List ℕ) where
@@ -300,9 +300,9 @@ module _ (counts s : List ℕ) where
       go true = refl
       go false = refl
 
-  pub same-value-twice-is-none : (f : FiniteEffect) → consistent counts s (finite_both f f) ≡ consistent counts s f
+  pub same_value_twice_is_none : (f : FiniteEffect) → consistent counts s (finite_both f f) ≡ consistent counts s f
   unfolding consistent clash
-  same-value-twice-is-none f =
+  same_value_twice_is_none f =
       every_same (length counts) _ _ (λ a h.
       every_same (get_or counts a 0) _ _ (λ d' high.
       every_same d' _ _ (λ d low.
@@ -318,13 +318,13 @@ module _ (counts s : List ℕ) where
       go true false e q f = refl
       go false p e q f = refl
 
-  one-assignment : (a d : ℕ) → consistent counts s (becomes a d) ≡ true
+  one_assignment : (a d : ℕ) → consistent counts s (becomes a d) ≡ true
   unfolding consistent clash
-  one-assignment a d =
+  one_assignment a d =
       every_from (length counts) _ (λ x h.
       every_from (get_or counts x 0) _ (λ y' high.
       every_from y' _ (λ y low.
       rw (one_value a d x y y' low) refl)))
 
-  pub same-assignment-twice : (a d : ℕ) → consistent counts s (finite_both (becomes a d) (becomes a d)) ≡ true
-  same-assignment-twice a d = same-value-twice-is-none (becomes a d) ∙ one-assignment a d
+  pub same_assignment_twice : (a d : ℕ) → consistent counts s (finite_both (becomes a d) (becomes a d)) ≡ true
+  same_assignment_twice a d = same_value_twice_is_none (becomes a d) ∙ one_assignment a d

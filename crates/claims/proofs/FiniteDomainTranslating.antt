@@ -14,21 +14,21 @@ use Rattle.task.specs.Table.{task_of}
 use Rattle.task.specs.Check.{unless, refusal}
 use Rattle.task.specs.Rules.{Rules}
 use Rattle.task.specs.Words.{padded, head_of, words_of, operator_words}
-use Rattle.task.proofs.Words.{lent_in, task-in}
+use Rattle.task.proofs.Words.{lent_in, task_in}
 use Rattle.normal_form.specs.Compiled.{Room, fits, Fits, compiled_head, not_compiled, CompileOutcome, nothing_given, task_given, outcome_by, given}
 use Rattle.normal_form.proofs.Compiled.{fits_tested, fits_not}
 use Rattle.finite_domain.specs.Table.{FiniteLent, finite_task_of}
 use Rattle.finite_domain.specs.Check.{finite_refusal}
-use Rattle.finite_domain.proofs.Kept.{finite-kept-rules, finite-rules-kept, finite-costs}
+use Rattle.finite_domain.proofs.Kept.{finite_kept_rules, finite_rules_kept, finite_costs}
 use Rattle.translation.specs.Translated.{translated}
 use Rattle.translation.specs.Translating.{translate_scratch_kept, translate_refusal, translating}
-use Rattle.translation.proofs.Passed.{translated-no-twins, translated-rules, translated-passes-in}
+use Rattle.translation.proofs.Passed.{translated_no_twins, translated_rules, translated_passes_in}
 use Rattle.claims.specs.Numbers.{Given, broken, keeps, no_rule_left, compile_answer_number}
 use Rattle.claims.specs.Zero.{CompileLeaves}
 use Rattle.claims.specs.FiniteDomain.{FiniteWords, RowByRow, row_breaks, rows_keep, finite_numbers, translate_numbers, SourceKept, Translates}
 use Rattle.claims.proofs.Numbers.{given as given-rule, at_most, not_zero, compile_told}
 use Rattle.claims.proofs.Refusals.{all_zero, words_past, rows_past, operators_past}
-use Rattle.claims.proofs.FiniteDomainNumbers.{finite-given, finite_check_gives_the_first}
+use Rattle.claims.proofs.FiniteDomainNumbers.{finite_given, finite_check_gives_the_first}
 
 pub behind_finite : (r m : ℕ) → unless (eqb r 0) r m ≡ or_else r m
 unfolding or_else
@@ -46,7 +46,7 @@ translate_gives_the_first l room =
       compile_told (translate_refusal l room) t room,
       behind_finite (finite_refusal l) (unless (translate_scratch_kept h room) 14 (unless (fits t room) 15 0)),
     )
-    (finite-given l _ _
+    (finite_given l _ _
     (given-rule (translate_scratch_kept h room) 14 _ (at_most (2 * h.formulas + 2 * h.effects) room.scratch) (λ _.
     given-rule (fits t room) 15 0 (fits_tested t room) (λ _. refl))))
 
@@ -85,30 +85,30 @@ module _ (l : FiniteLent) (room : Room) where
   unfolding translating
   number_told = compile_told (translate_refusal l room) (translated (finite_task_of l)) room
 
-  told-by : (n : ℕ) → translate_refusal l room ≡ n → translating l room ≡ outcome_by n (translated (finite_task_of l)) room
+  told_by : (n : ℕ) → translate_refusal l room ≡ n → translating l room ≡ outcome_by n (translated (finite_task_of l)) room
   unfolding translating
-  told-by n e = ap (λ (k : ℕ). outcome_by k (translated (finite_task_of l)) room) e
+  told_by n e = ap (λ (k : ℕ). outcome_by k (translated (finite_task_of l)) room) e
 
-  source-refused : SourceKept l room → translate_refusal l room ≡ unless (fits (translated (finite_task_of l)) room) 15 0
+  source_refused : SourceKept l room → translate_refusal l room ≡ unless (fits (translated (finite_task_of l)) room) 15 0
   unfolding translate_refusal translate_scratch_kept needed
-  source-refused k = rw (finite-rules-kept l k.long k.rules, le-leb needed room.scratch k.scratch_there)
+  source_refused k = rw (finite_rules_kept l k.long k.rules, le-leb needed room.scratch k.scratch_there)
 
   -- a number that neither the tables nor scratch give
-  refused-source :
+  refused_source :
       (n : ℕ)
       → translate_refusal l room ≡ n
       → ((finite_refusal l ≡ 0 → ⊥) → finite_refusal l ≡ n → ⊥)
       → (n ≡ 14 → ⊥)
       → SourceKept l room
   unfolding translate_refusal translate_scratch_kept needed
-  refused-source n e other no-scratch = tables (eqb (finite_refusal l) 0) refl
+  refused_source n e other no-scratch = tables (eqb (finite_refusal l) 0) refl
     where
       rest : ℕ
       rest = unless (fits (translated (finite_task_of l)) room) 15 0
 
       scratch : finite_refusal l ≡ 0 → (b : Bool) → leb needed room.scratch ≡ b → unless b 14 rest ≡ n → SourceKept l room
       scratch z true f q =
-          let k = finite-kept-rules l z in
+          let k = finite_kept_rules l z in
           record { long = k.0; rules = k.1; scratch_there = leb-true needed room.scratch f }
       scratch z false f q = absurd (no-scratch (sym q))
 
@@ -121,83 +121,83 @@ module _ (l : FiniteLent) (room : Room) where
           absurd (other (eqb-false (finite_refusal l) 0 f) q)
 
   -- what the last number says, once the source is kept
-  last-zero : (b : Bool) → unless b 15 0 ≡ 0 → b ≡ true
-  last-zero true e = refl
-  last-zero false e = absurd (omega arith)
+  last_zero : (b : Bool) → unless b 15 0 ≡ 0 → b ≡ true
+  last_zero true e = refl
+  last_zero false e = absurd (omega arith)
 
   fitted : SourceKept l room → translate_refusal l room ≡ 0 → Fits (translated (finite_task_of l)) room
   fitted k e =
       let u = translated (finite_task_of l) in
-      (fits_tested u room).0 (last-zero (fits u room) (sym (source-refused k) ∙ e))
+      (fits_tested u room).0 (last_zero (fits u room) (sym (source_refused k) ∙ e))
 
   head_told : (h : Head) → (translating l room).answer ≡ compiled_head h → translate_refusal l room ≡ 0
   head_told h e = sym number_told ∙ ap compile_answer_number e
 
-  refusal-told : (n : ℕ) → (translating l room).answer ≡ not_compiled n → translate_refusal l room ≡ n
-  refusal-told n e = sym number_told ∙ ap compile_answer_number e
+  refusal_told : (n : ℕ) → (translating l room).answer ≡ not_compiled n → translate_refusal l room ≡ n
+  refusal_told n e = sym number_told ∙ ap compile_answer_number e
 
   kept_of : translate_refusal l room ≡ 0 → SourceKept l room
-  kept_of e = refused-source 0 e (λ some z. some z) (λ q. omega arith)
+  kept_of e = refused_source 0 e (λ some z. some z) (λ q. omega arith)
 
-  given-translated : (h : Head) → (translating l room).answer ≡ compiled_head h → translating l room ≡ task_given (translated (finite_task_of l)) room
+  given_translated : (h : Head) → (translating l room).answer ≡ compiled_head h → translating l room ≡ task_given (translated (finite_task_of l)) room
   unfolding outcome_by
-  given-translated h e = told-by 0 (head_told h e)
+  given_translated h e = told_by 0 (head_told h e)
 
   -- Translating succeeds exactly if every table is long enough, the task keeps the rules, scratch is long enough, and the translated task keeps the limits
   -- and fits what is lent.
-  pub translated-exactly-if :
+  pub translated_exactly_if :
       (translating l room).answer ≡ compiled_head (head_of (translated (finite_task_of l)))
       ↔ SourceKept l room
       × Fits (translated (finite_task_of l)) room
   unfolding task_given outcome_by
-  translated-exactly-if =
+  translated_exactly_if =
       let u = translated (finite_task_of l) in (
         λ e.
             let z = head_told (head_of u) e in
             let k = kept_of z in
             (k, fitted k z),
         λ p.
-            let z : translate_refusal l room ≡ 0 = source-refused p.0 ∙ ap (λ (b : Bool). unless b 15 0) ((fits_tested u room).1 p.1) in
-            ap (λ (o : CompileOutcome). o.answer) (told-by 0 z),
+            let z : translate_refusal l room ≡ 0 = source_refused p.0 ∙ ap (λ (b : Bool). unless b 15 0) ((fits_tested u room).1 p.1) in
+            ap (λ (o : CompileOutcome). o.answer) (told_by 0 z),
       )
 
   -- "15 is given exactly if this task passes a limit or a lent table": never early, and never for a source that is refused otherwise.
-  pub fifteen-of-translating-exactly-if :
+  pub fifteen_of_translating_exactly_if :
       (translating l room).answer ≡ not_compiled 15
       ↔ SourceKept l room
       × (Fits (translated (finite_task_of l)) room → ⊥)
   unfolding nothing_given outcome_by
-  fifteen-of-translating-exactly-if =
+  fifteen_of_translating_exactly_if =
       let u = translated (finite_task_of l) in (
         λ e.
-            let z = refusal-told 15 e in
+            let z = refusal_told 15 e in
             let k =
-            refused-source 15 z (λ some q. never_fifteen l (finite_check_gives_the_first l) q) (λ q. omega arith)
+            refused_source 15 z (λ some q. never_fifteen l (finite_check_gives_the_first l) q) (λ q. omega arith)
             in (
               k,
               λ fit.
-                  let none : translate_refusal l room ≡ 0 = source-refused k ∙ ap (λ (b : Bool). unless b 15 0) ((fits_tested u room).1 fit) in
+                  let none : translate_refusal l room ≡ 0 = source_refused k ∙ ap (λ (b : Bool). unless b 15 0) ((fits_tested u room).1 fit) in
                   omega (arith, z, none),
             ),
         λ p.
-            let z : translate_refusal l room ≡ 15 = source-refused p.0 ∙ ap (λ (b : Bool). unless b 15 0) (fits_not u room p.1) in
-            ap (λ (o : CompileOutcome). o.answer) (told-by 15 z),
+            let z : translate_refusal l room ≡ 15 = source_refused p.0 ∙ ap (λ (b : Bool). unless b 15 0) (fits_not u room p.1) in
+            ap (λ (o : CompileOutcome). o.answer) (told_by 15 z),
       )
 
-  refused-leaves : (n : ℕ) → (translating l room).answer ≡ not_compiled n → translating l room ≡ nothing_given n room
+  refused_leaves : (n : ℕ) → (translating l room).answer ≡ not_compiled n → translating l room ≡ nothing_given n room
   unfolding outcome_by
-  refused-leaves n e = go n (refusal-told n e) e
+  refused_leaves n e = go n (refusal_told n e) e
     where
       go : (m : ℕ) → translate_refusal l room ≡ m → (translating l room).answer ≡ not_compiled m → translating l room ≡ nothing_given m room
       go zero z e =
-          let f : compiled_head (head_of (translated (finite_task_of l))) ≡ not_compiled 0 = unfold task_given in rw (told-by 0 z) at e in
+          let f : compiled_head (head_of (translated (finite_task_of l))) ≡ not_compiled 0 = unfold task_given in rw (told_by 0 z) at e in
           let q : ◌≡◌ {A = ℕ} 0 1 = cc in
           absurd (omega arith)
-      go (suc m) z e = told-by (suc m) z
+      go (suc m) z e = told_by (suc m) z
 
-  scratch-ends : (translating l room).scratch ≡ replicate room.scratch 0
+  scratch_ends : (translating l room).scratch ≡ replicate room.scratch 0
   unfolding translating outcome_by
-  scratch-ends = go (translate_refusal l room)
+  scratch_ends = go (translate_refusal l room)
     where
       go : (n : ℕ) → (outcome_by n (translated (finite_task_of l)) room).scratch ≡ replicate room.scratch 0
       go zero = unfold task_given in refl
@@ -205,60 +205,60 @@ module _ (l : FiniteLent) (room : Room) where
 
 -- Where translating succeeds.
 module _ (l : FiniteLent) (room : Room) (h : Head) (success : (translating l room).answer ≡ compiled_head h) where
-  given-head : h ≡ head_of (translated (finite_task_of l))
+  given_head : h ≡ head_of (translated (finite_task_of l))
   unfolding task_given
-  given-head =
+  given_head =
       let told : (translating l room).answer ≡ compiled_head (head_of (translated (finite_task_of l))) =
-      ap (λ (o : CompileOutcome). o.answer) (given-translated l room h success)
+      ap (λ (o : CompileOutcome). o.answer) (given_translated l room h success)
       in
       cc
 
   tail : ℕ → List ℕ → List ℕ
   tail n words = replicate (n - length words) 0
 
-  given-lent :
+  given_lent :
       let u = translated (finite_task_of l) in
       given h (translating l room)
       ≡ lent_in u (tail room.initial u.initial) (tail room.twins u.originals) (tail room.formulas (words_of u.formulas))
       (tail room.effects (words_of u.effects))
       (tail room.operators (operator_words u.operators))
   unfolding lent_in tail task_given padded
-  given-lent = rw (given-translated l room h success, given-head)
+  given_lent = rw (given_translated l room h success, given_head)
 
-  source-kept : SourceKept l room
-  source-kept = kept_of l room (head_told l room h success)
+  source_kept : SourceKept l room
+  source_kept = kept_of l room (head_told l room h success)
 
   room_kept : Fits (translated (finite_task_of l)) room
-  room_kept = fitted l room source-kept (head_told l room h success)
+  room_kept = fitted l room source_kept (head_told l room h success)
 
   -- the source translates
-  pub given-translates : FiniteWords l → Translates (finite_task_of l)
-  given-translates words =
-      let k = source-kept in
-      record { rules = k.rules; costs = finite-costs l words.operators k.long; room = room_kept.limits }
+  pub given_translates : FiniteWords l → Translates (finite_task_of l)
+  given_translates words =
+      let k = source_kept in
+      record { rules = k.rules; costs = finite_costs l words.operators k.long; room = room_kept.limits }
 
-  pub given-task : task_of (given h (translating l room)) ≡ translated (finite_task_of l)
-  given-task = ap task_of given-lent ∙ task-in (translated (finite_task_of l)) _ _ _ _ _
+  pub given_task : task_of (given h (translating l room)) ≡ translated (finite_task_of l)
+  given_task = ap task_of given_lent ∙ task_in (translated (finite_task_of l)) _ _ _ _ _
 
   -- A translating that succeeds gives the translated task: its head is answered, its rows stand in the tables, and all that is left is its words, with 0 past
   -- them.
-  pub gives-translated-task :
+  pub gives_translated_task :
       (h ≡ head_of (translated (finite_task_of l)))
       × (task_of (given h (translating l room)) ≡ translated (finite_task_of l))
       × (translating l room ≡ task_given (translated (finite_task_of l)) room)
-  gives-translated-task = (given-head, given-task, given-translated l room h success)
+  gives_translated_task = (given_head, given_task, given_translated l room h success)
 
   -- What it gave passes 01's check with W 0 and keeps 01's rules: every call takes it.
-  pub translated-passes :
+  pub translated_passes :
       FiniteWords l
       → (refusal (given h (translating l room)) ≡ 0)
       × (h.twins ≡ 0)
       × Rules (task_of (given h (translating l room)))
-  translated-passes words =
-      let k = given-translates words in (
-        ap refusal given-lent ∙ translated-passes-in (finite_task_of l) k.rules _ _ _ _ _ k.room,
-        ap (λ (x : Head). x.twins) given-head ∙ translated-no-twins (finite_task_of l),
-        rw given-task (translated-rules (finite_task_of l) k.rules k.costs k.room),
+  translated_passes words =
+      let k = given_translates words in (
+        ap refusal given_lent ∙ translated_passes_in (finite_task_of l) k.rules _ _ _ _ _ k.room,
+        ap (λ (x : Head). x.twins) given_head ∙ translated_no_twins (finite_task_of l),
+        rw given_task (translated_rules (finite_task_of l) k.rules k.costs k.room),
       )
 
 -- After a refusal every output is all 0; after success, all past the answer; scratch is all 0 on every way out.
@@ -268,7 +268,7 @@ translate_leaves l room =
     record {
       after_refusal =
           λ n e.
-          rw (refused-leaves l room n e)
+          rw (refused_leaves l room n e)
           (record {
             initial = all_zero room.initial;
             twins = all_zero room.twins;
@@ -280,7 +280,7 @@ translate_leaves l room =
           λ h e.
           let t = translated (finite_task_of l) in
           let fits = room_kept l room h e in
-          rw (given-translated l room h e, given-head l room h e)
+          rw (given_translated l room h e, given_head l room h e)
           (unfold head_of in
           record {
             initial = words_past room.initial t.initial fits.tables.initial;
@@ -289,5 +289,5 @@ translate_leaves l room =
             effects = rows_past room.effects t.effects fits.tables.effects;
             operators = operators_past room.operators t.operators fits.tables.operators;
           });
-      scratch = rw (scratch-ends l room) (all_zero room.scratch);
+      scratch = rw (scratch_ends l room) (all_zero room.scratch);
     }

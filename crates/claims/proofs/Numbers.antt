@@ -1,5 +1,5 @@
 -- Demand 1, of every call: the number that it gives is that of the first rule in 01's order that is broken, and 0 exactly if all are kept. So a stepper that
--- refused every state of more than 100 variables, say, would break `step-gives-the-first`.
+-- refused every state of more than 100 variables, say, would break `step_gives_the_first`.
 use Prim.Native.Nat.{ℕ, zero, suc, ◌+◌, ◌*◌, ◌%◌, ◌≤◌, ◌<◌}
 use native.Mathlib.Omega.{arith}
 use mathlib.Core.Path.{◌≡◌, refl, sym, ap, ◌∙◌}
@@ -19,9 +19,9 @@ use Rattle.task.specs.Tree.{formula_of}
 use Rattle.task.specs.Run.{operator_of, applicable, answer, run_on, Stop, ended, stopped, plain_run}
 use Rattle.task.proofs.Bounded.{and_left, and_right, and_both, every_at, every_from, first_at}
 use Rattle.task.proofs.RowRules.{operator_told}
-use Rattle.task.proofs.Held.{length-operators, operator-held}
-use Rattle.task.proofs.Kept.{kept-rules, rules-kept}
-use Rattle.task.proofs.Passed.{Passed, passed, not_refused, counts_tested, goal_tested, lengths-tested, initial-tested, twins-tested, formulas-tested, effects-tested, operators-tested}
+use Rattle.task.proofs.Held.{length_operators, operator_held}
+use Rattle.task.proofs.Kept.{kept_rules, rules_kept}
+use Rattle.task.proofs.Passed.{Passed, passed, not_refused, counts_tested, goal_tested, lengths_tested, initial_tested, twins_tested, formulas_tested, effects_tested, operators_tested}
 use Rattle.file_format.specs.Bytes.{file_of}
 use Rattle.file_format.specs.Reading.{accepted, rejected, Verdict, reading}
 use Rattle.task_writer.specs.Writing.{file_outcome, write_outcome}
@@ -133,7 +133,7 @@ operators_given : (l : Lent) (behind : ℕ → Type 0) (m : ℕ) → (operators_
 operators_given l behind m rest = go (operators_number l) refl
   where
     go : (r : ℕ) → operators_number l ≡ r → OperatorRows l behind (first_of r m)
-    go zero q = all_keep ((operators-tested l).0 q) (rest q)
+    go zero q = all_keep ((operators_tested l).0 q) (rest q)
     go (suc r) q =
         let f = l.head.formulas in
         let e = l.head.effects in
@@ -143,33 +143,33 @@ operators_given l behind m rest = go (operators_number l) refl
 
 module _ (l : Lent) where
   -- what stands behind them may rest on their passing
-  pub tables-given-passed : (behind : ℕ → Type 0) (m : ℕ) → (Passed l → behind m) → tables_numbers l behind (first_of (refusal l) m)
+  pub tables_given_passed : (behind : ℕ → Type 0) (m : ℕ) → (Passed l → behind m) → tables_numbers l behind (first_of (refusal l) m)
   unfolding refusal
-  tables-given-passed behind m rest =
+  tables_given_passed behind m rest =
       rw (tables_first (counts_kept l.head) (goal_kept l.head) (long_enough l) (initial_kept l) (twins_kept l) (formulas_kept l)
       (effects_kept l) (operators_number l) m)
       (given (counts_kept l.head) 6 _ (counts_tested l.head) (λ r6.
       given (goal_kept l.head) 7 _ (goal_tested l.head) (λ r7.
-      given (long_enough l) 5 _ (lengths-tested l) (λ r5.
-      given (initial_kept l) 8 _ (initial-tested l) (λ r8.
-      given (twins_kept l) 9 _ (twins-tested l) (λ r9.
-      given (formulas_kept l) 10 _ (formulas-tested l) (λ r10.
-      given (effects_kept l) 11 _ (effects-tested l) (λ r11.
+      given (long_enough l) 5 _ (lengths_tested l) (λ r5.
+      given (initial_kept l) 8 _ (initial_tested l) (λ r8.
+      given (twins_kept l) 9 _ (twins_tested l) (λ r9.
+      given (formulas_kept l) 10 _ (formulas_tested l) (λ r10.
+      given (effects_kept l) 11 _ (effects_tested l) (λ r11.
       operators_given l behind m (λ r12.
       rest
       (record {
         counts = (counts_tested l.head).1 r6;
         goal = (goal_tested l.head).1 r7;
-        lengths = (lengths-tested l).1 r5;
-        initial = (initial-tested l).1 r8;
-        twins = (twins-tested l).1 r9;
-        formulas = (formulas-tested l).1 r10;
-        effects = (effects-tested l).1 r11;
+        lengths = (lengths_tested l).1 r5;
+        initial = (initial_tested l).1 r8;
+        twins = (twins_tested l).1 r9;
+        formulas = (formulas_tested l).1 r10;
+        effects = (effects_tested l).1 r11;
         operators = r12;
       }))))))))))
 
-  tables-given : (behind : ℕ → Type 0) (m : ℕ) → behind m → tables_numbers l behind (first_of (refusal l) m)
-  tables-given behind m rest = tables-given-passed behind m (λ _. rest)
+  tables_given : (behind : ℕ → Type 0) (m : ℕ) → behind m → tables_numbers l behind (first_of (refusal l) m)
+  tables_given behind m rest = tables_given_passed behind m (λ _. rest)
 
 alone : (n : ℕ) → first_of n 0 ≡ n
 alone zero = refl
@@ -177,7 +177,7 @@ alone (suc n) = refl
 
 -- The check.
 pub check_gives_the_first : (l : Lent) → tables_numbers l no_rule_left (refusal l)
-check_gives_the_first l = rw (alone (refusal l)) at (tables-given l no_rule_left 0 refl)
+check_gives_the_first l = rw (alone (refusal l)) at (tables_given l no_rule_left 0 refl)
 
 pub not_zero : (n : ℕ) → eqb (suc n) 0 ≡ false
 not_zero n = ne_eqb (suc n) 0 (λ e. omega arith)
@@ -200,7 +200,7 @@ write_told l n = go (refusal l) refl (leb (length (file_of (task_of l))) n) refl
 pub write_gives_the_first : (l : Lent) (n : ℕ) → write_numbers l n (write_number (write_outcome l n).answer)
 write_gives_the_first l n =
     rw (write_told l n)
-    (tables-given l (Given (length (file_of (task_of l)) ≤ n) 20 no_rule_left) _
+    (tables_given l (Given (length (file_of (task_of l)) ≤ n) 20 no_rule_left) _
     (given (leb (length (file_of (task_of l))) n) 20 0 (at_most (length (file_of (task_of l))) n) (λ _. refl)))
 
 -- Compiling.
@@ -221,7 +221,7 @@ compile_gives_the_first l room =
       compile_told (compile_refusal l room) (finished (task_of l)) room,
       behind_tables (refusal l) (unless (eqb h.twins 0) 13 (unless (compile-scratch h room) 14 (unless (fits (finished (task_of l)) room) 15 0))),
     )
-    (tables-given l _ _
+    (tables_given l _ _
     (given (eqb h.twins 0) 13 _ (same h.twins 0) (λ _.
     given (compile-scratch h room) 14 _ (at_most (2 * h.formulas + 2 * h.effects) room.scratch) (λ _.
     given (fits (finished (task_of l)) room) 15 0 (fits_tested (finished (task_of l)) room) (λ _. refl)))))
@@ -249,30 +249,30 @@ early_first zero m false b = refl
 early_first (suc r) m a b = refl
 
 module _ (l : Lent) (s scratch : List ℕ) where
-  state-given : (behind : ℕ → Type 0) (m : ℕ) → behind m → state_numbers l s scratch behind (first_of (early_refusal l s scratch) m)
+  state_given : (behind : ℕ → Type 0) (m : ℕ) → behind m → state_numbers l s scratch behind (first_of (early_refusal l s scratch) m)
   unfolding early_refusal step_scratch_kept
-  state-given behind m rest =
+  state_given behind m rest =
       let h = l.head in
       rw (early_first (refusal l) m (state_kept h.variables s) (leb (h.formulas + h.effects) (length scratch)))
-      (tables-given l _ _
+      (tables_given l _ _
       (given (state_kept h.variables s) 16 _ (state_tested h.variables s) (λ _.
       given (leb (h.formulas + h.effects) (length scratch)) 14 m (at_most (h.formulas + h.effects) (length scratch)) (λ _. rest))))
 
   module _ (o : ℕ) where
     there : length (task_of l).operators ≡ l.head.operators
-    there = length-operators l
+    there = length_operators l
 
-    applicable-is :
+    applicable_is :
         o < l.head.operators
         → applicable (task_of l) s o ≡ holds s (formula_of (task_of l).formulas (operator_at l.operators o).precondition)
     unfolding applicable operator_of
-    applicable-is h = rw (there, lt-ltb o l.head.operators h, operator-held l o h)
+    applicable_is h = rw (there, lt-ltb o l.head.operators h, operator_held l o h)
 
-    step-number-told :
+    step_number_told :
         (stepped l s o scratch).answer.refusal
         ≡ first_of (early_refusal l s scratch) (unless (ltb o l.head.operators) 17 (unless (applicable (task_of l) s o) 18 0))
     unfolding stepped step_by step_told step_refused plain_run run_on answer
-    step-number-told = go (early_refusal l s scratch) refl (ltb o l.head.operators) refl (applicable (task_of l) s o) refl
+    step_number_told = go (early_refusal l s scratch) refl (ltb o l.head.operators) refl (applicable (task_of l) s o) refl
       where
         go :
             (r : ℕ)
@@ -288,17 +288,17 @@ module _ (l : Lent) (s scratch : List ℕ) where
         go zero e false f c g = rw (e, there, f)
         go (suc r) e b f c g = rw e
 
-    pub step-gives-the-first : step_numbers l s o scratch (stepped l s o scratch).answer.refusal
-    step-gives-the-first =
-        rw step-number-told
-        (state-given _ _
+    pub step_gives_the_first : step_numbers l s o scratch (stepped l s o scratch).answer.refusal
+    step_gives_the_first =
+        rw step_number_told
+        (state_given _ _
         (given (ltb o l.head.operators) 17 _ (below o l.head.operators) (λ h.
-        given (applicable (task_of l) s o) 18 0 (λ e. sym (applicable-is h) ∙ e, λ e. applicable-is h ∙ e) (λ _. refl))))
+        given (applicable (task_of l) s o) 18 0 (λ e. sym (applicable_is h) ∙ e, λ e. applicable_is h ∙ e) (λ _. refl))))
 
   module _ (numbers : List ℕ) where
-    run-number-told : end_number (ran l s numbers scratch).answer.end ≡ run_refusal l s numbers scratch
+    run_number_told : end_number (ran l s numbers scratch).answer.end ≡ run_refusal l s numbers scratch
     unfolding ran run_by run_told run_refused run_answer end_of
-    run-number-told = go (run_refusal l s numbers scratch) refl (plain_run (task_of l) s numbers).stop refl
+    run_number_told = go (run_refusal l s numbers scratch) refl (plain_run (task_of l) s numbers).stop refl
       where
         go :
             (r : ℕ)
@@ -310,11 +310,11 @@ module _ (l : Lent) (s scratch : List ℕ) where
         go zero e (stopped n) f = rw (e, f)
         go (suc r) e stop f = rw e
 
-    pub run-gives-the-first : run_numbers l s numbers scratch (end_number (ran l s numbers scratch).answer.end)
+    pub run_gives_the_first : run_numbers l s numbers scratch (end_number (ran l s numbers scratch).answer.end)
     unfolding run_refusal sequence_kept
-    run-gives-the-first =
-        rw run-number-told
-        (state-given _ _ (given (leb (length numbers) 65535) 19 0 (at_most (length numbers) 65535) (λ _. refl)))
+    run_gives_the_first =
+        rw run_number_told
+        (state_given _ _ (given (leb (length numbers) 65535) 19 0 (at_most (length numbers) 65535) (λ _. refl)))
 
 -- The C entries.
 laid_told : (k : ℕ) (bytes : List ℕ) (n : ℕ) → (laid_by k bytes n).number ≡ k
@@ -390,44 +390,44 @@ stop_told ended = no_stop refl refl
 stop_told (stopped n) = stopped_by refl
 
 module _ (file : List ℕ) (bytes : OfBytes file) where
-  pub file-given :
+  pub file_given :
       (behind : Task → ℕ → Type 0) (number : Verdict → ℕ)
       → ((k : ℕ) → number (rejected k) ≡ k)
       → ((t : Task) → Rules t → behind t (number (accepted t)))
       → FileNumber file behind (number (reading own file))
-  file-given behind number refusal-told rest = go (reading own file) refl
+  file_given behind number refusal_told rest = go (reading own file) refl
     where
       go : (o : Verdict) → reading own file ≡ o → FileNumber file behind (number (reading own file))
       go (accepted t) e =
           let a = (file_accepted_exactly_if own file t bytes).0 e in
           was_read t a.0 a.1 (rw e (rest t a.1))
       go (rejected k) e =
-          let n : number (reading own file) ≡ k = ap number e ∙ refusal-told k in
+          let n : number (reading own file) ≡ k = ap number e ∙ refusal_told k in
           not_read (rw n e) (λ z. omega (arith, told_some (rejected_by own file k e), n, z))
 
-  pub read-entry-gives-the-first : (n : ℕ) → read_entry_numbers file n (read_entry file n).number
+  pub read_entry_gives_the_first : (n : ℕ) → read_entry_numbers file n (read_entry file n).number
   unfolding read_entry read_entry_by laid
-  read-entry-gives-the-first n =
-      file-given (λ t. Given (length (tables_bytes t) ≤ n) 20 no_rule_left) (λ o. (read_entry_by o n).number) (λ k. refl) (λ t r.
+  read_entry_gives_the_first n =
+      file_given (λ t. Given (length (tables_bytes t) ≤ n) 20 no_rule_left) (λ o. (read_entry_by o n).number) (λ k. refl) (λ t r.
       rw (laid_told (unless (leb (length (tables_bytes t)) n) 20 0) (tables_bytes t) n)
       (given (leb (length (tables_bytes t)) n) 20 0 (at_most (length (tables_bytes t)) n) (λ _. refl)))
 
-  pub compile-entry-gives-the-first : (o r : ℕ) → compile_entry_numbers file o r (compile_entry file o r).number
+  pub compile_entry_gives_the_first : (o r : ℕ) → compile_entry_numbers file o r (compile_entry file o r).number
   unfolding compile_entry compile_entry_by
-  compile-entry-gives-the-first o r =
-      file-given _ (λ v. (compile_entry_by v o r).number) (λ k. refl) (λ t rules.
+  compile_entry_gives_the_first o r =
+      file_given _ (λ v. (compile_entry_by v o r).number) (λ k. refl) (λ t rules.
       let u = finished t in
       let n = length (file_of u) in
       rw (compiled_told t o r)
       (given (eqb (length t.originals) 0) 13 _ (same (length t.originals) 0) (λ _.
       given (counts_kept (head_of u)) 15 _ (limits_kept u) (λ _. given (leb n o && leb 4 r) 20 0 (file_tested u o r) (λ _. refl)))))
 
-  pub run-entry-gives-the-first :
+  pub run_entry_gives_the_first :
       (state sequence : List ℕ) (r : ℕ)
       → run_entry_numbers file state sequence r (run_entry file state sequence r).number
   unfolding run_entry run_entry_by run_number
-  run-entry-gives-the-first state sequence r =
-      file-given _ (λ v. (run_entry_by v state sequence r).number) (λ k. refl) (λ t rules.
+  run_entry_gives_the_first state sequence r =
+      file_given _ (λ v. (run_entry_by v state sequence r).number) (λ k. refl) (λ t rules.
       let v = length t.initial in
       rw (run_told_number t state sequence r (state_kept v state) (eqb (length sequence % 2) 0 && sequence_kept (numbers_of sequence)) (leb 16 r))
       (given (state_kept v state) 16 _ (state_tested v state) (λ _.
@@ -452,17 +452,17 @@ abbrev RowRules : Lent → Type 0
 RowRules l = (i : ℕ) → i < l.head.operators → OperatorRule l.head.formulas l.head.effects (operator_at l.operators i)
 
 module _ (l : Lent) {behind : ℕ → Type 0} {n : ℕ} where
-  rows-passed : OperatorRows l behind n → n ≡ 0 → RowRules l × behind n
-  rows-passed (first_broken i h before b) z = absurd ((row_told l.head.formulas l.head.effects (operator_at l.operators i) b).0 z)
-  rows-passed (all_keep r b) z = (r, b)
+  rows_passed : OperatorRows l behind n → n ≡ 0 → RowRules l × behind n
+  rows_passed (first_broken i h before b) z = absurd ((row_told l.head.formulas l.head.effects (operator_at l.operators i) b).0 z)
+  rows_passed (all_keep r b) z = (r, b)
 
   rows_behind : OperatorRows l behind n → RowRules l → behind n
   rows_behind (first_broken i h before b) r = absurd ((row_told l.head.formulas l.head.effects (operator_at l.operators i) b).1 (r i h))
   rows_behind (all_keep r b) q = b
 
 module _ (l : Lent) {behind : ℕ → Type 0} {n : ℕ} (g : tables_numbers l behind n) where
-  pub tables-passed : n ≡ 0 → (LongEnough l × Checked (task_of l)) × behind n
-  tables-passed z =
+  pub tables_passed : n ≡ 0 → (LongEnough l × Checked (task_of l)) × behind n
+  tables_passed z =
       let g6 = passed_on 5 g z in
       let g7 = passed_on 6 g6.1 z in
       let g5 = passed_on 4 g7.1 z in
@@ -470,24 +470,24 @@ module _ (l : Lent) {behind : ℕ → Type 0} {n : ℕ} (g : tables_numbers l be
       let g9 = passed_on 8 g8.1 z in
       let g10 = passed_on 9 g9.1 z in
       let g11 = passed_on 10 g10.1 z in
-      let g12 = rows-passed l g11.1 z in
+      let g12 = rows_passed l g11.1 z in
       let p : Passed l =
       record {
         counts = (counts_tested l.head).1 g6.0;
         goal = (goal_tested l.head).1 g7.0;
-        lengths = (lengths-tested l).1 g5.0;
-        initial = (initial-tested l).1 g8.0;
-        twins = (twins-tested l).1 g9.0;
-        formulas = (formulas-tested l).1 g10.0;
-        effects = (effects-tested l).1 g11.0;
-        operators = (operators-tested l).1 g12.0;
+        lengths = (lengths_tested l).1 g5.0;
+        initial = (initial_tested l).1 g8.0;
+        twins = (twins_tested l).1 g9.0;
+        formulas = (formulas_tested l).1 g10.0;
+        effects = (effects_tested l).1 g11.0;
+        operators = (operators_tested l).1 g12.0;
       }
       in
-      (kept-rules l (not_refused l p), g12.1)
+      (kept_rules l (not_refused l p), g12.1)
 
-  pub tables-behind : LongEnough l × Checked (task_of l) → behind n
-  tables-behind k =
-      let p = passed l (rules-kept l k.0 k.1) in
+  pub tables_behind : LongEnough l × Checked (task_of l) → behind n
+  tables_behind k =
+      let p = passed l (rules_kept l k.0 k.1) in
       rows_behind l
       (behind_kept
       (behind_kept
@@ -495,31 +495,31 @@ module _ (l : Lent) {behind : ℕ → Type 0} {n : ℕ} (g : tables_numbers l be
       (behind_kept
       (behind_kept
       (behind_kept (behind_kept g ((counts_tested l.head).0 p.counts)) ((goal_tested l.head).0 p.goal))
-      ((lengths-tested l).0 p.lengths))
-      ((initial-tested l).0 p.initial))
-      ((twins-tested l).0 p.twins))
-      ((formulas-tested l).0 p.formulas))
-      ((effects-tested l).0 p.effects))
-      ((operators-tested l).0 p.operators)
+      ((lengths_tested l).0 p.lengths))
+      ((initial_tested l).0 p.initial))
+      ((twins_tested l).0 p.twins))
+      ((formulas_tested l).0 p.formulas))
+      ((effects_tested l).0 p.effects))
+      ((operators_tested l).0 p.operators)
 
 module _ (l : Lent) (s scratch : List ℕ) {behind : ℕ → Type 0} {n : ℕ} (g : state_numbers l s scratch behind n) where
-  state-passed : n ≡ 0 → StateKept l s scratch × behind n
-  state-passed z =
-      let t = tables-passed l g z in
+  state_passed : n ≡ 0 → StateKept l s scratch × behind n
+  state_passed z =
+      let t = tables_passed l g z in
       let g16 = passed_on 15 t.1 z in
       let g14 = passed_on 13 g16.1 z in
       (record { tables = t.0; state = g16.0; scratch_there = g14.0 }, g14.1)
 
-  state-behind : StateKept l s scratch → behind n
-  state-behind k = behind_kept (behind_kept (tables-behind l g k.tables) k.state) k.scratch_there
+  state_behind : StateKept l s scratch → behind n
+  state_behind k = behind_kept (behind_kept (tables_behind l g k.tables) k.state) k.scratch_there
 
 pub written_exactly_if : (l : Lent) (n : ℕ) → write_number (write_outcome l n).answer ≡ 0 ↔ WriteKept l n
 written_exactly_if l n =
     let g = write_gives_the_first l n in (
       λ z.
-          let t = tables-passed l g z in
+          let t = tables_passed l g z in
           record { tables = t.0; output = (passed_on 19 t.1 z).0 },
-      λ k. behind_kept (tables-behind l g k.tables) k.output,
+      λ k. behind_kept (tables_behind l g k.tables) k.output,
     )
 
 pub stepped_exactly_if :
@@ -527,12 +527,12 @@ pub stepped_exactly_if :
     → (stepped l s o scratch).answer.refusal ≡ 0
     ↔ StepKept l s o scratch
 stepped_exactly_if l s o scratch =
-    let g = step-gives-the-first l s scratch o in (
+    let g = step_gives_the_first l s scratch o in (
       λ z.
-          let t = state-passed l s scratch g z in
+          let t = state_passed l s scratch g z in
           let g17 = passed_on 16 t.1 z in
           record { early = t.0; inside = g17.0; precondition = (passed_on 17 g17.1 z).0 },
-      λ k. behind_kept (behind_kept (state-behind l s scratch g k.early) k.inside) k.precondition,
+      λ k. behind_kept (behind_kept (state_behind l s scratch g k.early) k.inside) k.precondition,
     )
 
 pub ran_exactly_if :
@@ -540,11 +540,11 @@ pub ran_exactly_if :
     → end_number (ran l s numbers scratch).answer.end ≡ 0
     ↔ RunKept l s numbers scratch
 ran_exactly_if l s numbers scratch =
-    let g = run-gives-the-first l s scratch numbers in (
+    let g = run_gives_the_first l s scratch numbers in (
       λ z.
-          let t = state-passed l s scratch g z in
+          let t = state_passed l s scratch g z in
           record { early = t.0; few = (passed_on 18 t.1 z).0 },
-      λ k. behind_kept (state-behind l s scratch g k.early) k.few,
+      λ k. behind_kept (state_behind l s scratch g k.early) k.few,
     )
 
 -- of the C entries
@@ -569,18 +569,18 @@ stop_not_zero t s numbers {m} e z =
     ⊎_elim (λ r. omega (arith, r.0)) (λ r. omega (arith, r.0)) (stopped_where t s numbers m e).reason
 
 module _ (file : List ℕ) (bytes : OfBytes file) where
-  pub read-for-c-exactly-if : (n : ℕ) → (read_entry file n).number ≡ 0 ↔ ReadEntryKept file n
-  read-for-c-exactly-if n = (λ z. told (read-entry-gives-the-first file bytes n) z, λ k. kept-zero k)
+  pub read_for_c_exactly_if : (n : ℕ) → (read_entry file n).number ≡ 0 ↔ ReadEntryKept file n
+  read_for_c_exactly_if n = (λ z. told (read_entry_gives_the_first file bytes n) z, λ k. kept-zero k)
     where
       told : {m : ℕ} → read_entry_numbers file n m → m ≡ 0 → ReadEntryKept file n
       told (not_read e d) z = absurd (d z)
       told (was_read t e r b) z = record { task = t; same = e; rules = r; output = (passed_on 19 b z).0 }
 
       kept-zero : ReadEntryKept file n → (read_entry file n).number ≡ 0
-      kept-zero k = behind_kept (file_behind (read-entry-gives-the-first file bytes n) k.task k.same k.rules) k.output
+      kept-zero k = behind_kept (file_behind (read_entry_gives_the_first file bytes n) k.task k.same k.rules) k.output
 
-  pub compiled-for-c-exactly-if : (o r : ℕ) → (compile_entry file o r).number ≡ 0 ↔ CompileEntryKept file o r
-  compiled-for-c-exactly-if o r = (λ z. told (compile-entry-gives-the-first file bytes o r) z, λ k. kept-zero k)
+  pub compiled_for_c_exactly_if : (o r : ℕ) → (compile_entry file o r).number ≡ 0 ↔ CompileEntryKept file o r
+  compiled_for_c_exactly_if o r = (λ z. told (compile_entry_gives_the_first file bytes o r) z, λ k. kept-zero k)
     where
       told : {m : ℕ} → compile_entry_numbers file o r m → m ≡ 0 → CompileEntryKept file o r
       told (not_read e d) z = absurd (d z)
@@ -593,16 +593,16 @@ module _ (file : List ℕ) (bytes : OfBytes file) where
       kept-zero k =
           behind_kept
           (behind_kept
-          (behind_kept (file_behind (compile-entry-gives-the-first file bytes o r) k.task k.same k.rules) k.untwinned)
+          (behind_kept (file_behind (compile_entry_gives_the_first file bytes o r) k.task k.same k.rules) k.untwinned)
           k.limits)
           k.outputs
 
   -- a run gives 0 exactly if its rules are kept and it is not stopped
-  pub run-for-c-exactly-if :
+  pub run_for_c_exactly_if :
       (state sequence : List ℕ) (r : ℕ)
       → (run_entry file state sequence r).number ≡ 0
       ↔ RunEntryKept file state sequence r
-  run-for-c-exactly-if state sequence r = (λ z. told (run-entry-gives-the-first file bytes state sequence r) z, λ k. kept-zero k)
+  run_for_c_exactly_if state sequence r = (λ z. told (run_entry_gives_the_first file bytes state sequence r) z, λ k. kept-zero k)
     where
       unstopped : (t : Task) {m : ℕ} → StopNumber (plain_run t state (numbers_of sequence)).stop m → m ≡ 0 → (plain_run t state (numbers_of sequence)).stop ≡ ended
       unstopped t (no_stop e q) z = e
@@ -633,7 +633,7 @@ module _ (file : List ℕ) (bytes : OfBytes file) where
           number-zero
           (behind_kept
           (behind_kept
-          (behind_kept (file_behind (run-entry-gives-the-first file bytes state sequence r) k.task k.same k.rules) k.start)
+          (behind_kept (file_behind (run_entry_gives_the_first file bytes state sequence r) k.task k.same k.rules) k.start)
           k.numbers)
           k.output)
           k.unstopped

@@ -11,7 +11,7 @@ use borrow.Author.Tests.{lt-ltb, le-leb}
 use Rattle.task.specs.Table.{Lent, operator_width, task_of}
 use Rattle.task.specs.Rules.{no_operator, LongEnough}
 use Rattle.task.specs.Run.{operator_of, charge_of, charge}
-use Rattle.task.proofs.Held.{length-operators, operator-held}
+use Rattle.task.proofs.Held.{length_operators, operator_held}
 use Rattle.operator_records.specs.declared.OperatorRecord.{OperatorRecord}
 use Rattle.operator_records.specs.Change.{number_of, with_percent, changed, change_by, change}
 use Rattle.operator_records.specs.Rows.{as_operator, no_record, row_record, with_record}
@@ -60,23 +60,23 @@ own_record_changes_nothing table i = own_record table i
 
 -- In a run: operator i is charged by the new percent, and every other operator as before.
 module _ (l : Lent) (i percent : ℕ) (long : LongEnough l) (below : i < l.head.operators) where
-  operators-are : (task_of (percent_changed l i percent)).operators ≡ set (task_of l).operators i (as_operator (with_percent percent (row_record l.operators i)))
+  operators_are : (task_of (percent_changed l i percent)).operators ≡ set (task_of l).operators i (as_operator (with_percent percent (row_record l.operators i)))
   unfolding task_of
-  operators-are = one_operator l.head.operators l.operators i _ long.operators below
+  operators_are = one_operator l.head.operators l.operators i _ long.operators below
 
-  pub charged-by-the-new-percent :
+  pub charged_by_the_new_percent :
       (s : List ℕ) → charge (task_of (percent_changed l i percent)) s i ≡ ((operator_of (task_of l) i).cost * percent + 50) / 100
   unfolding charge charge_of operator_of
-  charged-by-the-new-percent s =
+  charged_by_the_new_percent s =
       let inside : operator_width * i + operator_width ≤ length l.operators = omega (arith, long.operators) in
       rw (
-        operators-are,
-        get_or-set_same (task_of l).operators i _ no_operator (rw (length-operators l) below),
+        operators_are,
+        get_or-set_same (task_of l).operators i _ no_operator (rw (length_operators l) below),
         ← record_inside l.operators i inside,
-        operator-held l i below,
+        operator_held l i below,
       )
       refl
 
-  pub others-charged-as-before : (s : List ℕ) (k : ℕ) → k ≢ i → charge (task_of (percent_changed l i percent)) s k ≡ charge (task_of l) s k
+  pub others_charged_as_before : (s : List ℕ) (k : ℕ) → k ≢ i → charge (task_of (percent_changed l i percent)) s k ≡ charge (task_of l) s k
   unfolding charge operator_of
-  others-charged-as-before s k apart = rw (operators-are, get_or-set_other (task_of l).operators i k _ no_operator apart) refl
+  others_charged_as_before s k apart = rw (operators_are, get_or-set_other (task_of l).operators i k _ no_operator apart) refl

@@ -15,9 +15,9 @@ use Rattle.normal_form.specs.Conditions.{Becoming, condition}
 use Rattle.normal_form.specs.Operators.{Changes, changes_of, built_operator}
 use Rattle.normal_form.specs.Finished.{built}
 use Rattle.normal_form.proofs.Growth.{longer, grows_trans, steady_join, steady_pair, steady_each}
-use Rattle.normal_form.proofs.Steady.{steady_image, steady-guarded, steady-condition, steady-changes, steady_operator}
-use Rattle.normal_form.proofs.ShapeSizes.{adds-grows, deletes-grows, moment-grows}
-use Rattle.normal_form.proofs.Order.{Stands, value_later, condition-stands, lower_number, join-no-twin, join-one-row, join-adds-nothing, join-own-row, join-zero-left, join-zero-right, join-one-left, join-one-right, pair_is, under-false, under-is, changes-alone, changes-joined}
+use Rattle.normal_form.proofs.Steady.{steady_image, steady_guarded, steady_condition, steady_changes, steady_operator}
+use Rattle.normal_form.proofs.ShapeSizes.{adds_grows, deletes_grows, moment_grows}
+use Rattle.normal_form.proofs.Order.{Stands, value_later, condition_stands, lower_number, join_no_twin, join_one_row, join_adds_nothing, join_own_row, join_zero_left, join_zero_right, join_one_left, join_one_right, pair_is, under_false, under_is, changes_alone, changes_joined}
 use Rattle.claims.specs.Order.{InOrder, JoinsBy, JoinAdds, PairInOrder, nothing_under, UnderInOrder, ChangesInOrder, behind, state_before}
 
 two_rows : {s : St} → Grows start s → 2 ≤ length s.rows
@@ -44,9 +44,9 @@ in_order {first} {second} s end fs ss fb from g =
 join_adds : (p : Polarity) (a b : ℕ) (x : St) → JoinAdds a b x (join p a b x).st
 join_adds p a b x =
     record {
-      one_row = join-one-row p a b x;
-      no_twin = join-no-twin p a b x;
-      folded = λ c. join-adds-nothing p a b x (λ h k. constant c h k);
+      one_row = join_one_row p a b x;
+      no_twin = join_no_twin p a b x;
+      folded = λ c. join_adds_nothing p a b x (λ h k. constant c h k);
     }
   where
     constant : (a < 2) ⊎ (b < 2) → 2 ≤ a → 2 ≤ b → ⊥
@@ -56,19 +56,19 @@ join_adds p a b x =
 join_joins : (p : Polarity) (a b : ℕ) (x u : St) → Grows (join p a b x).st u → JoinsBy p u.rows a b (join p a b x).value
 join_joins plain a b x u g =
     record {
-      zero_left = join-zero-left plain a b x;
-      zero_right = join-zero-right plain a b x;
-      one_left = join-one-left plain a b x;
-      one_right = join-one-right plain a b x;
-      own_row = join-own-row plain a b x u g;
+      zero_left = join_zero_left plain a b x;
+      zero_right = join_zero_right plain a b x;
+      one_left = join_one_left plain a b x;
+      one_right = join_one_right plain a b x;
+      own_row = join_own_row plain a b x u g;
     }
 join_joins negated a b x u g =
     record {
-      zero_left = join-zero-left negated a b x;
-      zero_right = join-zero-right negated a b x;
-      one_left = join-one-left negated a b x;
-      one_right = join-one-right negated a b x;
-      own_row = join-own-row negated a b x u g;
+      zero_left = join_zero_left negated a b x;
+      zero_right = join_zero_right negated a b x;
+      one_left = join_one_left negated a b x;
+      one_right = join_one_right negated a b x;
+      own_row = join_own_row negated a b x u g;
     }
 
 pub pair_in_order :
@@ -105,15 +105,15 @@ module _ (becomes : Becoming) (steady : (q : Polarity) (f : Formula) → Steady 
   none_is plain = refl
   none_is negated = refl
 
-  pub under-ordered :
+  pub under_ordered :
       (f : Formula) (e : Effect) → UnderInOrder p s (becomes p f) (condition becomes p l e) (condition becomes p l (under f e))
-  under-ordered f e =
+  under_ordered f e =
       record {
         begins = inner_first;
-        ends = λ q. under-false becomes p l f e s (q ∙ none_is p);
+        ends = λ q. under_false becomes p l f e s (q ∙ none_is p);
         order = λ q.
-            in_order s (condition becomes p l (under f e) s).st (steady-condition becomes steady p l e) (steady p f)
-            (condition-stands becomes steady stand p l e)
+            in_order s (condition becomes p l (under f e) s).st (steady_condition becomes steady p l e) (steady p f)
+            (condition_stands becomes steady stand p l e)
             from
             (next q);
         adds = λ q. rw (is q) (join_adds p a.value c.value a.st);
@@ -121,8 +121,8 @@ module _ (becomes : Becoming) (steady : (q : Polarity) (f : Formula) → Steady 
             let h : Grows a.st u = grows_trans (next q) k in
             rw (
               value_later (steady p f) c.st u h,
-              value_later (steady-condition becomes steady p l e) s u (grows_trans ((steady p f).grow c.st) h),
-              value_later (steady-condition becomes steady p l (under f e)) s u k,
+              value_later (steady_condition becomes steady p l e) s u (grows_trans ((steady p f).grow c.st) h),
+              value_later (steady_condition becomes steady p l (under f e)) s u k,
               is q,
             ) (join_joins p a.value c.value a.st u (rw (is q) at k));
       }
@@ -134,10 +134,10 @@ module _ (becomes : Becoming) (steady : (q : Polarity) (f : Formula) → Steady 
       a = becomes p f c.st
 
       is : (c.value ≡ nothing_under p → ⊥) → condition becomes p l (under f e) s ≡ join p a.value c.value a.st
-      is q = under-is becomes p l f e s (λ r. q (r ∙ sym (none_is p)))
+      is q = under_is becomes p l f e s (λ r. q (r ∙ sym (none_is p)))
 
       inner_first : Grows c.st (condition becomes p l (under f e) s).st
-      inner_first = unfold condition bind in (steady-guarded becomes steady p f c.value).grow c.st
+      inner_first = unfold condition bind in (steady_guarded becomes steady p f c.value).grow c.st
 
       next : (c.value ≡ nothing_under p → ⊥) → Grows a.st (condition becomes p l (under f e) s).st
       next q = rw (is q) ((steady_join p a.value c.value).grow a.st)
@@ -159,44 +159,44 @@ module _ (becomes : Becoming) (steady : (q : Polarity) (f : Formula) → Steady 
       → (D.value ≡ 0 → ⊥)
       → let k = join plain D.value N.value N.st in
       changes_of becomes e v s ≡ record { value = record { variable = v; adds = A.value; deletes = k.value }; st = k.st }
-  joined_is x y = changes-joined becomes e v s x y
+  joined_is x y = changes_joined becomes e v s x y
 
-  alone-is :
+  alone_is :
       (A.value ≡ 0) ⊎ (D.value ≡ 0)
       → changes_of becomes e v s ≡ record { value = record { variable = v; adds = A.value; deletes = D.value }; st = D.st }
-  alone-is q = changes-alone becomes e v s q
+  alone_is q = changes_alone becomes e v s q
 
   next : (A.value ≡ 0 → ⊥) → (D.value ≡ 0 → ⊥) → Grows N.st (changes_of becomes e v s).st
   next x y = rw (joined_is x y) ((steady_join plain D.value N.value).grow N.st)
 
-  pub changes-ordered :
+  pub changes_ordered :
       ChangesInOrder s (condition becomes plain (sets v) e) (condition becomes plain (clears v) e) (condition becomes negated (sets v) e)
       (changes_of becomes e v)
-  changes-ordered =
-      let sa = steady-condition becomes steady plain (sets v) e in
-      let sd = steady-condition becomes steady plain (clears v) e in
-      let sn = steady-condition becomes steady negated (sets v) e in
-      let far : Grows A.st (changes_of becomes e v s).st = adds-grows becomes steady e v s in
-      let mid : Grows D.st (changes_of becomes e v s).st = deletes-grows becomes steady e v s in
+  changes_ordered =
+      let sa = steady_condition becomes steady plain (sets v) e in
+      let sd = steady_condition becomes steady plain (clears v) e in
+      let sn = steady_condition becomes steady negated (sets v) e in
+      let far : Grows A.st (changes_of becomes e v s).st = adds_grows becomes steady e v s in
+      let mid : Grows D.st (changes_of becomes e v s).st = deletes_grows becomes steady e v s in
       let later : Grows start A.st = grows_trans from (sa.grow s) in
       record {
-        order = in_order s (changes_of becomes e v s).st sa sd (condition-stands becomes steady stand plain (sets v) e) from mid;
+        order = in_order s (changes_of becomes e v s).st sa sd (condition_stands becomes steady stand plain (sets v) e) from mid;
         sets_under = λ u k.
-            ap (λ (r : Changes). r.adds) (value_later (steady-changes becomes steady e v) s u k)
+            ap (λ (r : Changes). r.adds) (value_later (steady_changes becomes steady e v) s u k)
             ∙ changes-adds
             ∙ sym (value_later sa s u (grows_trans far k));
-        ends = λ q. ap (λ (r : Got Changes). r.st) (alone-is q);
+        ends = λ q. ap (λ (r : Got Changes). r.st) (alone_is q);
         stays = λ q u k.
-            ap (λ (r : Changes). r.deletes) (value_later (steady-changes becomes steady e v) s u k)
-            ∙ ap (λ (r : Got Changes). r.value.deletes) (alone-is q)
+            ap (λ (r : Changes). r.deletes) (value_later (steady_changes becomes steady e v) s u k)
+            ∙ ap (λ (r : Got Changes). r.value.deletes) (alone_is q)
             ∙ sym (value_later sd A.st u (grows_trans mid k));
-        conflict = λ x y. in_order A.st (changes_of becomes e v s).st sd sn (condition-stands becomes steady stand plain (clears v) e) later (next x y);
+        conflict = λ x y. in_order A.st (changes_of becomes e v s).st sd sn (condition_stands becomes steady stand plain (clears v) e) later (next x y);
         adds = λ x y. rw (joined_is x y) (join_adds plain D.value N.value N.st);
         joins = λ x y u k.
             rw (
               value_later sd A.st u (grows_trans mid k),
               value_later sn D.st u (grows_trans (next x y) k),
-              value_later (steady-changes becomes steady e v) s u k,
+              value_later (steady_changes becomes steady e v) s u k,
               joined_is x y,
             ) (join_joins plain D.value N.value N.st u (rw (joined_is x y) at k));
       }
@@ -227,18 +227,18 @@ module _ (t : Task) (o : ℕ) where
       ap (λ (s : St). (each w changes (precondition s).st).st) (behind_each (built_operator t) o start)
       ∙ behind_each changes w (precondition (behind (built_operator t) o start)).st
 
-  pub moment-from-start : (v : ℕ) → Grows start (state_before t o v)
-  moment-from-start v =
+  pub moment_from_start : (v : ℕ) → Grows start (state_before t o v)
+  moment_from_start v =
       rw (← moment v)
       (grows_trans ((steady_each o (steady_operator t)).grow start)
       (grows_trans ((steady_image width plain _).grow _)
-      ((steady_each v (steady-changes (image width) (steady_image width) (effect_of_operator t o))).grow _)))
+      ((steady_each v (steady_changes (image width) (steady_image width) (effect_of_operator t o))).grow _)))
 
-  pub moment-stands :
+  pub moment_stands :
       (v : ℕ)
       → o < length t.operators
       → v < length t.initial
       → Grows (changes_of (image (length t.initial)) (effect_of_operator t o) v (state_before t o v)).st (built t).st
-  moment-stands v h k =
-      let g : Grows (state_before t o (suc v)) (built t).st = rw (moment (suc v)) at (moment-grows t o (suc v) h k) in
+  moment_stands v h k =
+      let g : Grows (state_before t o (suc v)) (built t).st = rw (moment (suc v)) at (moment_grows t o (suc v) h k) in
       unfold state_before behind in g

@@ -22,7 +22,7 @@ use Rattle.normal_form.proofs.Demand.{finished_keeps}
 use Rattle.cheapest_plan.specs.Cheapest.{Pick, no_plan, plan_of, cheapest}
 use Rattle.cheapest_plan.specs.Order.{Plan, cost_of}
 use Rattle.cheapest_plan.specs.Planned.{few_variables}
-use Rattle.cheapest_plan.proofs.Cheapest.{cheapest-is-plan, cheapest-is-least, no-plan-exactly-if, least-is-cheapest}
+use Rattle.cheapest_plan.proofs.Cheapest.{cheapest_is_plan, cheapest_is_least, no_plan_exactly_if, least_is_cheapest}
 use Rattle.entry_tables.specs.Own.{own}
 use Rattle.layouts.specs.Layout.{low_bytes, numbers_of, run_number, stop_number, run_bytes}
 use Rattle.layouts.proofs.Sizes.{length_word_bytes}
@@ -33,7 +33,7 @@ use Rattle.claims.proofs.FileNumbers.{told_some}
 use Rattle.claims.specs.Statements.{OfBytes, Compiles}
 use Rattle.claims.specs.Numbers.{Given, broken, keeps, no_rule_left, not_read, was_read, SequenceRule}
 use Rattle.claims.specs.CheapestPlan.{HasPlan, PlanBytesFit, plan_entry_numbers, PlanEntryKept, PlanForC, PlanEntryLeaves, PlanRuns}
-use Rattle.claims.proofs.Numbers.{given as given-rule, at_most, state_tested, sequence_tested, file-given, passed_on, behind_kept, file_behind}
+use Rattle.claims.proofs.Numbers.{given as given-rule, at_most, state_tested, sequence_tested, file_given, passed_on, behind_kept, file_behind}
 use Rattle.claims.proofs.Refusals.{all_zero, zero_past}
 use Rattle.claims.proofs.DemandTwoFiles.{file_accepted_exactly_if, reading_what_was_written}
 use Rattle.claims.proofs.DemandTwoRuns.{unstopped_run_does_all, plan_exactly_if, plan_byte_exactly_if}
@@ -53,11 +53,11 @@ bytes_tested t passes {p} {c} e o = (
       record {
         fits =
             λ q least.
-            let one = least-is-cheapest t passes least in
+            let one = least_is_cheapest t passes least in
             let same : q ≡ p = cc in
             rw same (leb-true (2 * length p) o b);
       },
-  λ f. le-leb (2 * length p) o (f.fits p (cheapest-is-least t passes e)),
+  λ f. le-leb (2 * length p) o (f.fits p (cheapest_is_least t passes e)),
 )
 
 -- 22, 23
@@ -73,9 +73,9 @@ picked_number t o r passes = go (cheapest t) refl
     number p c false = refl
 
     go : (a : Pick) → cheapest t ≡ a → Given (HasPlan t) 22 (Given (PlanBytesFit t o) 23 no_rule_left) (plan_picked a o r).number
-    go no_plan e = broken (λ h. (no-plan-exactly-if t passes).0 e h.numbers h.plan) refl
+    go no_plan e = broken (λ h. (no_plan_exactly_if t passes).0 e h.numbers h.plan) refl
     go (plan_of p c) e =
-        keeps (record { numbers = p; plan = (cheapest-is-plan t passes e).0 })
+        keeps (record { numbers = p; plan = (cheapest_is_plan t passes e).0 })
         (rw (number p c (leb (2 * length p) o)) (given-rule (leb (2 * length p) o) 23 0 (bytes_tested t passes e o) (λ _. refl)))
 
 -- 21, 20
@@ -110,18 +110,18 @@ run_of_plan t q w {p} {c} e plan charged steps cost =
 
 module _ (file : List ℕ) (bytes : OfBytes file) (o r : ℕ) where
   -- the number that is given is that of the first rule in order that is broken
-  pub plan-entry-gives-the-first : plan_entry_numbers file o r (plan_entry file o r).number
+  pub plan_entry_gives_the_first : plan_entry_numbers file o r (plan_entry file o r).number
   unfolding plan_entry plan_entry_by plan_number few_variables head_of
-  plan-entry-gives-the-first =
-      file-given file bytes _ (λ v. (plan_entry_by v o r).number) (λ k. refl) (λ t rules.
+  plan_entry_gives_the_first =
+      file_given file bytes _ (λ v. (plan_entry_by v o r).number) (λ k. refl) (λ t rules.
       let v = length t.initial in
       rw (number_told t o r (leb v 10) (leb 12 r))
       (given-rule (leb v 10) 21 _ (at_most v 10) (λ _.
       given-rule (leb 12 r) 20 _ (at_most 12 r) (λ _. picked_number t o r rules.checked))))
 
   -- .. and 0 exactly if all are kept
-  pub planned-for-c-exactly-if : (plan_entry file o r).number ≡ 0 ↔ PlanEntryKept file o r
-  planned-for-c-exactly-if = (λ z. told plan-entry-gives-the-first z, λ k. kept-zero k)
+  pub planned_for_c_exactly_if : (plan_entry file o r).number ≡ 0 ↔ PlanEntryKept file o r
+  planned_for_c_exactly_if = (λ z. told plan_entry_gives_the_first z, λ k. kept-zero k)
     where
       told : {m : ℕ} → plan_entry_numbers file o r m → m ≡ 0 → PlanEntryKept file o r
       told (not_read e d) z = absurd (d z)
@@ -145,15 +145,15 @@ module _ (file : List ℕ) (bytes : OfBytes file) (o r : ℕ) where
           behind_kept
           (behind_kept
           (behind_kept
-          (behind_kept (file_behind plan-entry-gives-the-first k.task k.same k.rules) k.few_variables)
+          (behind_kept (file_behind plan_entry_gives_the_first k.task k.same k.rules) k.few_variables)
           k.result)
           k.exists)
           k.output
 
   -- What the entry leaves.
-  pub plan-entry-leaves : PlanEntryLeaves file o r (plan_entry file o r)
+  pub plan_entry_leaves : PlanEntryLeaves file o r (plan_entry file o r)
   unfolding plan_entry plan_entry_by plan_given plan_picked plan_laid plan_bytes padded plan_number few_variables head_of low_bytes
-  plan-entry-leaves = go (reading own file) refl
+  plan_entry_leaves = go (reading own file) refl
     where
       no_answer : (k : ℕ) → 1 ≤ k → PlanEntryLeaves file o r (nothing_planned k o r)
       no_answer k h =
@@ -224,12 +224,12 @@ module _ (file : List ℕ) (bytes : OfBytes file) (o r : ℕ) where
       go (rejected k) q = no_answer k (told_some (rejected_by own file k q))
 
   -- The numbers that were given, run from the initial state on the same file, are a plan, and running tells the steps and the cost that planning told.
-  pub given-plan-runs :
+  pub given_plan_runs :
       (g : PlanForC file o r (plan_entry file o r))
       → let w = plan_entry file o r in
       PlanRuns w (run_entry file g.task.initial (take (2 * length g.numbers) w.out) 16)
   unfolding run_entry run_entry_by run_number
-  given-plan-runs g =
+  given_plan_runs g =
       let t = g.task in
       let s : List ℕ = t.initial in
       let w = plan_entry file o r in

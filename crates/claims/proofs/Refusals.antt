@@ -28,7 +28,7 @@ use Rattle.plan.specs.declared.outcome.End.TheVariants.{Refused as RunRefused}
 use Rattle.plan.specs.Outcome.{run_refusal, run_refused, end_of, run_answer, run_told, run_by, ran}
 use Rattle.normal_form.specs.Finished.{finished}
 use Rattle.normal_form.specs.Compiled.{Room, nothing_given, task_given, compiling}
-use Rattle.normal_form.proofs.Compiled.{given-compiles, given-outcome, given-head, refused-leaves, scratch-ends}
+use Rattle.normal_form.proofs.Compiled.{given_compiles, given_outcome, given_head, refused_leaves, scratch_ends}
 use Rattle.entry_tables.specs.Own.{own, compile_number}
 use Rattle.layouts.specs.Layout.{low_bytes, numbers_of, run_number, stop_number, run_bytes, tables_bytes, laid_by, laid}
 use Rattle.layouts.proofs.RunWays.{free_of, low_length}
@@ -161,7 +161,7 @@ compile_leaves l room =
     record {
       after_refusal =
           λ n e.
-          rw (refused-leaves l room n e)
+          rw (refused_leaves l room n e)
           (record {
             initial = all_zero room.initial;
             twins = all_zero room.twins;
@@ -172,8 +172,8 @@ compile_leaves l room =
       after_success =
           λ h e.
           let t = finished (task_of l) in
-          let fits = (given-compiles l room h e).fits in
-          rw (given-outcome l room h e, given-head l room h e)
+          let fits = (given_compiles l room h e).fits in
+          rw (given_outcome l room h e, given_head l room h e)
           (unfold head_of in
           record {
             initial = words_past room.initial t.initial fits.tables.initial;
@@ -182,7 +182,7 @@ compile_leaves l room =
             effects = rows_past room.effects t.effects fits.tables.effects;
             operators = operators_past room.operators t.operators fits.tables.operators;
           });
-      scratch = rw (scratch-ends l room) (all_zero room.scratch);
+      scratch = rw (scratch_ends l room) (all_zero room.scratch);
     }
 
 -- step: whatever refuses it, 17 and 18 too, it leaves the state as it was and tells 0 steps, cost 0 and no goal; scratch is all 0 on every way out.

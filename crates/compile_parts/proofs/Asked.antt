@@ -12,14 +12,14 @@ use Rattle.formula_builder.specs.Inner.Held.{Store, store}
 use Rattle.atom_sets.specs.Inner.Sets.{sets_end}
 use Rattle.atom_sets.specs.Inner.Finds.{FindsSets, FoundSets}
 use Rattle.conditions.specs.Inner.Conditions.{column, EffectSource, Columns, Noted}
-use Rattle.conditions.proofs.Rows.{both-lower, under-lower, known_kind}
-use Rattle.conditions.proofs.Alone.{atom_within, sets-right}
+use Rattle.conditions.proofs.Rows.{both_lower, under_lower, known_kind}
+use Rattle.conditions.proofs.Alone.{atom_within, sets_right}
 use Rattle.conditions.proofs.Notes.{noted_blank}
 use Rattle.effect_batches.specs.Inner.Firsts.{First, FindsFirst}
 use Rattle.variable_changes.specs.Inner.Stands.{Leaves}
 use Rattle.building.specs.declared.Progress.{Progress}
 use Rattle.building.specs.Inner.Taken.{size_at, Begun, Taken, TakesGoal, TookGoal, FromStart}
-use Rattle.building.proofs.Begun.{taken_none, goal-asks, goal-taken}
+use Rattle.building.proofs.Begun.{taken_none, goal_asks, goal-taken}
 use Rattle.compile_parts.specs.declared.Counts.{Counts}
 use Rattle.compile_parts.specs.Inner.Batches.{Known, TakesBatch}
 use Rattle.compile_parts.specs.Inner.Builds.{Builds}
@@ -49,8 +49,8 @@ module _ {c : Counts} {formulas effects operators originals scratch notes built 
         limit = rules.limit;
         variables = omega (arith, b.blank.variables);
         room = b.notes_space;
-        both = λ i h k. both-lower c.frame formulas effects scratch rules i h k;
-        under = λ i h k. (under-lower c.frame formulas effects scratch rules i h k).1;
+        both = λ i h k. both_lower c.frame formulas effects scratch rules i h k;
+        under = λ i h k. (under_lower c.frame formulas effects scratch rules i h k).1;
         atom = λ i h some low.
             atom_within c.frame effects scratch rules i h
             (record { kind = (row_at effects i).kind; a = (row_at effects i).a; b = (row_at effects i).b }) refl some
@@ -58,8 +58,8 @@ module _ {c : Counts} {formulas effects operators originals scratch notes built 
         known = kind_most;
       }
 
-  pub finds-first : FindsFirst c.frame effects operators c.operators (replicate 4096 0)
-  finds-first =
+  pub finds_first : FindsFirst c.frame effects operators c.operators (replicate 4096 0)
+  finds_first =
       record {
         rows =
             record {
@@ -81,7 +81,7 @@ module _ {c : Counts} {formulas effects operators originals scratch notes built 
       → Known c effects operators first
   known f long =
       record {
-        roots = finds-first.roots;
+        roots = finds_first.roots;
         precondition = b.precondition;
         words = omega (arith, rules.limit, long, length-replicate {A = ℕ} 4096 0);
         comes = f;
@@ -92,20 +92,20 @@ module _ {c : Counts} {formulas effects operators originals scratch notes built 
     pub none_kept : (j : ℕ) → sets_end c.frame ≤ j → get_or named j 0 ≡ 0
     none_kept j h = s.behind j h ∙ b.blank_notes j
 
-    pub notes-room : sets_end c.frame ≤ length named
-    notes-room = omega (arith, b.notes_space, same)
+    pub notes_room : sets_end c.frame ≤ length named
+    notes_room = omega (arith, b.notes_space, same)
 
-    no-columns : Columns c.frame named
+    no_columns : Columns c.frame named
     unfolding column
-    no-columns =
+    no_columns =
         record {
-          words = notes-room;
+          words = notes_room;
           apart = λ d e _ h some _. absurd (omega (arith, some, s.ahead e (omega (arith, h)) ∙ b.blank_notes e));
         }
 
     pub noted : (t : St) → Noted c.frame formulas effects named t
     noted t =
-        noted_blank formulas t (sets-right c.frame effects scratch named rules s.sets) no-columns
+        noted_blank formulas t (sets_right c.frame effects scratch named rules s.sets) no_columns
         (λ j _ h. s.ahead j h ∙ b.blank_notes j) none_kept
 
   pub first_taken :
@@ -115,7 +115,7 @@ module _ {c : Counts} {formulas effects operators originals scratch notes built 
   first_taken g = taken_none c.frame formulas effects operators b.blank g
 
   -- the next batch
-  pub next-batch :
+  pub next_batch :
       {s : Store} {first named memo kept : List ℕ} {p : Progress}
       → Known c effects operators first
       → p.operators < c.operators
@@ -125,7 +125,7 @@ module _ {c : Counts} {formulas effects operators originals scratch notes built 
       → Leaves p.full c.frame formulas effects named (size_at p) s
       → (p.operators ≡ 0 → (j : ℕ) → sets_end c.frame ≤ j → get_or named j 0 ≡ 0)
       → TakesBatch c formulas effects operators first named s memo kept p
-  next-batch n h long same k l blank =
+  next_batch n h long same k l blank =
       record {
         begins =
             record {
@@ -142,12 +142,12 @@ module _ {c : Counts} {formulas effects operators originals scratch notes built 
   -- behind all operators
   module _ {s : Store} {memo kept : List ℕ} {p : Progress} (all : p.operators ≡ c.operators)
       (k : Taken c.frame formulas effects operators s memo kept p) where
-    pub last-asks : TakesGoal c.frame formulas c.goal s memo p
-    last-asks = goal-asks c.frame formulas effects operators c.operators c.goal all k b.goal
+    pub last_asks : TakesGoal c.frame formulas c.goal s memo p
+    last_asks = goal_asks c.frame formulas effects operators c.operators c.goal all k b.goal
 
-    pub all-built :
+    pub all_built :
         {after : Store} {memo2 : List ℕ} {z : Step}
         → length memo2 ≡ length memo
         → TookGoal c.frame formulas c.goal s after memo memo2 p z
         → FromStart c.frame formulas effects operators c.operators c.goal after memo2 kept z
-    all-built long y = goal-taken c.frame formulas effects operators c.operators c.goal all k long y
+    all_built long y = goal-taken c.frame formulas effects operators c.operators c.goal all k long y

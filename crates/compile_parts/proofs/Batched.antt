@@ -37,8 +37,8 @@ covered_here frame formulas effects operators n s u roots g =
 
 module _ {c : Counts} {formulas effects operators first notes scratch : List ℕ} {s : Store} {p : Progress}
     (b : BeginsNext c formulas effects operators first notes s scratch p) where
-  pub batch-asks : p.full ≡ false → NextBatch c.frame formulas effects operators p.operators c.operators first notes (size_at p) s scratch
-  batch-asks q =
+  pub batch_asks : p.full ≡ false → NextBatch c.frame formulas effects operators p.operators c.operators first notes (size_at p) s scratch
+  batch_asks q =
       let known = b.known in
       let stood = b.along.stood q in
       let stands = stood.stands in
@@ -78,12 +78,12 @@ module _ {c : Counts} {formulas effects operators first notes scratch : List ℕ
         blank = b.blank;
       }
 
-  pub batch-begun :
+  pub batch_begun :
       {notes' scratch' : List ℕ} {s' : Store} {end : ℕ}
       → p.full ≡ false
       → BegunBatch c.frame formulas effects p.operators c.operators notes' (size_at p) s s' scratch' end
       → BegunNext c formulas effects operators notes' s' scratch' p end
-  batch-begun q x =
+  batch_begun q x =
       let stands = x.filled.stands in
       record {
         more = x.more;
@@ -107,26 +107,26 @@ module _ {c : Counts} {formulas effects operators first notes scratch : List ℕ
       }
 
   -- without room nothing is done
-  pub batch-full : BegunNext c formulas effects operators notes s scratch p c.operators
-  batch-full = record { more = b.next; most = omega arith; along = b.along }
+  pub batch_full : BegunNext c formulas effects operators notes s scratch p c.operators
+  batch_full = record { more = b.next; most = omega arith; along = b.along }
 
 -- The operators before the batch stay taken, and each of its own may be.
 module _ {c : Counts} {formulas effects operators first notes scratch records : List ℕ} {s : Store} {p : Progress}
     (b : TakesBatch c formulas effects operators first notes s scratch records p) where
-  pub still-taken :
+  pub still_taken :
       {notes' scratch' : List ℕ} {s' : Store} {end : ℕ}
       → BegunNext c formulas effects operators notes' s' scratch' p end
       → Taken c.frame formulas effects operators s' scratch' records p
-  still-taken x = record { done = x.along.stood; kept = b.taken.kept; over = b.taken.over }
+  still_taken x = record { done = x.along.stood; kept = b.taken.kept; over = b.taken.over }
 
-  pub next-asks :
+  pub next_asks :
       {notes' memo kept : List ℕ} {s' : Store} {r : Progress}
       → Leaves r.full c.frame formulas effects notes' (size_at r) s'
       → r.operators < c.operators
       → length kept ≡ length records
       → Taken c.frame formulas effects operators s' memo kept r
       → Takes c.frame formulas effects notes' operators s' memo kept r
-  next-asks {r = r} n h long k =
+  next_asks {r = r} n h long k =
       let known = b.begins.known in
       record {
         taken = k;

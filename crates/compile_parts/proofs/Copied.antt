@@ -48,8 +48,8 @@ module _ (built table : List ℕ) (n : ℕ) (there : 3 * n ≤ length built) (sp
         b = before (3 * i + 2) (omega arith) k;
       }
 
-  pub copied-rows :
+  pub copied_rows :
       take (3 * n) built ++ drop (3 * n) table ≡ padded (length table) (words_of (upto n (row_at built)))
-  copied-rows =
+  copied_rows =
       padded_rows copied n (omega (arith, long)) past
       ∙ ap₂ (λ (m : ℕ) (k : List Row). padded m (words_of k)) long (upto_same n (row_at copied) (row_at built) same)

@@ -20,18 +20,18 @@ use Rattle.compile_text.proofs.Cut.{cut_input}
 -- the two answers of reading, through tables with room for every task
 module _ (file : List ℕ) {r : ReadAnswer} (i w f e o : List ℕ) {i' w' f' e' o' : List ℕ} (mine : Own i w f e o)
     (reads : read_left r i' w' f' e' o' ≡ read_outcome (lengths (length i) (length w) (length f) (length e) (length o)) file) where
-  own-reads : read_left r i' w' f' e' o' ≡ read_outcome own file
+  own_reads : read_left r i' w' f' e' o' ≡ read_outcome own file
   unfolding own
-  own-reads =
+  own_reads =
       reads
       ∙ ap (λ (l : Lengths). read_outcome l file)
       (λ j. lengths (mine.bytes j) (mine.originals j) (mine.formula_words j) (mine.effect_words j) (mine.operator_words j))
 
   pub task_read : {head : Head} → r ≡ Read head → Bytes file → ReadAs own file (lent head i' w' f' e' o')
-  task_read q b = read_as own file own-reads q b
+  task_read q b = read_as own file own_reads q b
 
-  pub file-refused : {n : ℕ} → r ≡ Refused n → reading own file ≡ rejected n
-  file-refused q = refused_as own file own-reads q
+  pub file_refused : {n : ℕ} → r ≡ Refused n → reading own file ≡ rejected n
+  file_refused q = refused_as own file own_reads q
 
 pub text_refused : (file : List ℕ) {n k m : ℕ} {out : List ℕ} → reading own file ≡ rejected n → k ≡ n → TextGives (refusal_line k) m out → TextGives (text_of file) m out
 unfolding text_of text_by

@@ -8,17 +8,17 @@ use borrow.Author.Tests.{le-leb}
 use Rattle.task.specs.declared.Head.{Head}
 use Rattle.task.specs.Table.{Lent, lent, task_of}
 use Rattle.task.specs.Check.{refusal}
-use Rattle.task.proofs.Kept.{kept-rules}
+use Rattle.task.proofs.Kept.{kept_rules}
 use Rattle.file_format.specs.Bytes.{file_of}
 use Rattle.normal_form.specs.Finished.{finished}
 use Rattle.normal_form.specs.Compiled.{Room, compile_scratch_kept, compile_refusal, not_compiled, CompileOutcome, compiling, given}
-use Rattle.normal_form.proofs.Compiled.{given-task, given-passes}
+use Rattle.normal_form.proofs.Compiled.{given_task, given_passes}
 use Rattle.compiler.specs.declared.CompileAnswer.{CompileAnswer}
 use Rattle.compiler.specs.declared.CompileAnswer.TheVariants.{Compiled, Refused}
 use Rattle.compiler.specs.Left.{tables, answer_of, compile_left}
 use Rattle.entry_tables.specs.Own.{own_room, compile_number}
 use Rattle.entry_tables.specs.Inner.Answers.{refused_compile}
-use Rattle.entry_tables.proofs.Compiling.{own-number, same-refusal, number_told, not_zero}
+use Rattle.entry_tables.proofs.Compiling.{own_number, same_refusal, number_told, not_zero}
 use Rattle.compiled_file.specs.Filed.{no_file, filed, compiled_file_by, compiled_file, CompileGives}
 use Rattle.compiled_file.specs.Inner.Giving.{compile_through, small_room, SmallSource}
 
@@ -28,8 +28,8 @@ module _ (l : Lent) (kept : refusal l ≡ 0) (o n : ℕ) {code : ℕ} {out resul
   by_number room same g =
       subst (λ (k : ℕ). CompileGives (compiled_file_by k (finished (task_of l)) o n) code out result) same g
 
-  pub full-given : CompileGives (compile_through l own_room o n) code out result → CompileGives (compiled_file (task_of l) o n) code out result
-  full-given g = by_number own_room (own-number l kept) g
+  pub full_given : CompileGives (compile_through l own_room o n) code out result → CompileGives (compiled_file (task_of l) o n) code out result
+  full_given g = by_number own_room (own_number l kept) g
 
   -- through room of any lengths, with scratch enough, any answer but 15 stands
   settled :
@@ -41,21 +41,21 @@ module _ (l : Lent) (kept : refusal l ≡ 0) (o n : ℕ) {code : ℕ} {out resul
   unfolding compile_through compiled_file_by
   settled room enough d g =
       by_number room
-      (same-refusal l kept room enough (λ e. d (g.told ∙ ap (λ (k : ℕ). (compiled_file_by k (finished (task_of l)) o n).number) e)))
+      (same_refusal l kept room enough (λ e. d (g.told ∙ ap (λ (k : ℕ). (compiled_file_by k (finished (task_of l)) o n).number) e)))
       g
 
 module _ (l : Lent) (room : Room) {r : CompileAnswer} {i w f e p s : List ℕ} (leaves : compile_left r (tables i w f e p s) ≡ compiling l room) where
   answered : {q : CompileAnswer} → r ≡ q → (compiling l room).answer ≡ answer_of q
   answered q = sym (ap (λ (x : CompileOutcome). x.answer) leaves) ∙ ap answer_of q
 
-  pub no-task-compiled :
+  pub no_task_compiled :
       (o n : ℕ) {k number code : ℕ} {out result : List ℕ}
       → r ≡ Refused k
       → number ≡ k
       → CompileGives (no_file number o n) code out result
       → CompileGives (compile_through l room o n) code out result
   unfolding compile_through compiled_file_by
-  no-task-compiled o n {k} {number} {code} {out} {result} q same none = go k (answered q) same
+  no_task_compiled o n {k} {number} {code} {out} {result} q same none = go k (answered q) same
     where
       go : (k : ℕ) → (compiling l room).answer ≡ not_compiled k → number ≡ k → CompileGives (compile_through l room o n) code out result
       go zero e same = absurd (not_zero l room e)
@@ -64,20 +64,20 @@ module _ (l : Lent) (room : Room) {r : CompileAnswer} {i w f e p s : List ℕ} (
           (record { told = none.told ∙ same; written = none.written; held = none.held })
 
   module _ {head : Head} (q : r ≡ Compiled head) where
-    its-tables : lent head i w f e p ≡ given head (compiling l room)
-    its-tables = ap (given head) leaves
+    its_tables : lent head i w f e p ≡ given head (compiling l room)
+    its_tables = ap (given head) leaves
 
-    pub compiled-kept : refusal (lent head i w f e p) ≡ 0
-    compiled-kept = ap refusal its-tables ∙ given-passes l room head (answered q)
+    pub compiled_kept : refusal (lent head i w f e p) ≡ 0
+    compiled_kept = ap refusal its_tables ∙ given_passes l room head (answered q)
 
-    pub compiled-given :
+    pub compiled_given :
         (o n : ℕ) {code : ℕ} {out result : List ℕ}
         → CompileGives (filed (file_of (task_of (lent head i w f e p))) o n) code out result
         → CompileGives (compile_through l room o n) code out result
     unfolding compile_through compiled_file_by
-    compiled-given o n g =
+    compiled_given o n g =
         let t : task_of (lent head i w f e p) ≡ finished (task_of l) =
-        ap task_of its-tables ∙ given-task l room head (answered q)
+        ap task_of its_tables ∙ given_task l room head (answered q)
         in
         rw (number_told l room ∙ ap refused_compile (answered q), ← t) g
 
@@ -90,7 +90,7 @@ pub small_settled :
     → CompileGives (compiled_file (task_of l) o n) code out result
 unfolding compile_scratch_kept small_room
 small_settled {l} o n small d g =
-    let long = (kept-rules l small.kept).0 in
+    let long = (kept_rules l small.kept).0 in
     settled l small.kept o n small_room
     (le-leb (2 * l.head.formulas + 2 * l.head.effects) 512 (omega (arith, small.few, long.formulas, long.effects)))
     d g

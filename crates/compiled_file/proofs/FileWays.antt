@@ -16,7 +16,7 @@ use Rattle.task_writer.specs.Inner.Putting.{Put}
 use Rattle.task_writer.specs.Writing.{WriteOutcome, wrote, file_outcome, write_outcome}
 use Rattle.task.specs.Words.{padded}
 use Rattle.layouts.specs.Layout.{low_bytes}
-use Rattle.layouts.proofs.LayWays.{put-padded, size}
+use Rattle.layouts.proofs.LayWays.{put_padded, size}
 use Rattle.layouts.proofs.RunWays.{low_next}
 use Rattle.compiled_file.specs.Filed.{CompileEntry, no_file, filed_by, filed, CompileGives}
 
@@ -28,41 +28,41 @@ module _ (l : Lent) (out result : List ℕ) where
   abbrev file : List ℕ
   file = file_of (task_of l)
 
-  pub short-result :
+  pub short_result :
       {r : ℕ} {out' result' : List ℕ}
       → length result < 4
       → CompileGives (no_file 20 (length out) (length result)) r out' result'
       → CompileGives (filed (file_of (task_of l)) (length out) (length result)) r out' result'
   unfolding filed filed_by
-  short-result h g =
+  short_result h g =
       let t : leb (length file) (length out) && leb 4 (length result) ≡ false =
       rw (lt-leb 4 (length result) h) (and_false (leb (length file) (length out)))
       in
       rw t g
 
   module _ (kept : refusal l ≡ 0) {r : WriteAnswer} {out' : List ℕ} (writes : wrote r out' ≡ write_outcome l (length out)) where
-    by-file : wrote r out' ≡ file_outcome (file_of (task_of l)) (length out)
+    by_file : wrote r out' ≡ file_outcome (file_of (task_of l)) (length out)
     unfolding write_outcome
-    by-file = rw kept at writes
+    by_file = rw kept at writes
 
-    pub short-out :
+    pub short_out :
         {n : ℕ} {result' : List ℕ}
         → r ≡ NotWritten n
         → result' ≡ replicate (length result) 0
         → CompileGives (filed (file_of (task_of l)) (length out) (length result)) 20 out' result'
     unfolding filed filed_by file_outcome
-    short-out {n} {result'} q b = go (leb (length file) (length out)) refl
+    short_out {n} {result'} q b = go (leb (length file) (length out)) refl
       where
         go : (x : Bool) → leb (length file) (length out) ≡ x → CompileGives (filed (file_of (task_of l)) (length out) (length result)) 20 out' result'
         go true e =
-            let s : wrote r out' ≡ wrote (Written (length file)) (padded (length out) file) = rw e at by-file in
+            let s : wrote r out' ≡ wrote (Written (length file)) (padded (length out) file) = rw e at by_file in
             let w : NotWritten n ≡ Written (length file) = sym q ∙ ap (λ (y : WriteOutcome). y.answer) s in
             absurd (let z : ◌≡◌ {A = ℕ} 0 1 = cc in omega arith)
         go false e =
-            let s : wrote r out' ≡ wrote (NotWritten 20) (replicate (length out) 0) = rw e at by-file in
+            let s : wrote r out' ≡ wrote (NotWritten 20) (replicate (length out) 0) = rw e at by_file in
             rw e (record { told = refl; written = ap (λ (y : WriteOutcome). y.out) s; held = b })
 
-    pub gives-file :
+    pub gives_file :
         {n end : ℕ} {z result' : List ℕ}
         → r ≡ Written n
         → 4 ≤ length result
@@ -70,15 +70,15 @@ module _ (l : Lent) (out result : List ℕ) where
         → Put (low_bytes 4 n) 0 end z result'
         → CompileGives (filed (file_of (task_of l)) (length out) (length result)) 0 out' result'
     unfolding filed filed_by file_outcome
-    gives-file {n} {end} {z} {result'} q h clear p = go (leb (length file) (length out)) refl
+    gives_file {n} {end} {z} {result'} q h clear p = go (leb (length file) (length out)) refl
       where
         go : (x : Bool) → leb (length file) (length out) ≡ x → CompileGives (filed (file_of (task_of l)) (length out) (length result)) 0 out' result'
         go true e =
-            let s : wrote r out' ≡ wrote (Written (length file)) (padded (length out) file) = rw e at by-file in
+            let s : wrote r out' ≡ wrote (Written (length file)) (padded (length out) file) = rw e at by_file in
             let w : Written n ≡ Written (length file) = sym q ∙ ap (λ (y : WriteOutcome). y.answer) s in
             let same : n ≡ length file = cc in
             let here : result' ≡ padded (length result) (low_bytes 4 n) =
-            put-padded (low_bytes 4 n) result clear p (omega (arith, low_next 4 n p, size (low_bytes 4 n) result clear p))
+            put_padded (low_bytes 4 n) result clear p (omega (arith, low_next 4 n p, size (low_bytes 4 n) result clear p))
             in
             rw (e, le-leb 4 (length result) h)
             (record {
@@ -87,7 +87,7 @@ module _ (l : Lent) (out result : List ℕ) where
               held = here ∙ ap (λ (k : ℕ). padded (length result) (low_bytes 4 k)) same;
             })
         go false e =
-            let s : wrote r out' ≡ wrote (NotWritten 20) (replicate (length out) 0) = rw e at by-file in
+            let s : wrote r out' ≡ wrote (NotWritten 20) (replicate (length out) 0) = rw e at by_file in
             let w : Written n ≡ NotWritten 20 = sym q ∙ ap (λ (y : WriteOutcome). y.answer) s in
             absurd (let z : ◌≡◌ {A = ℕ} 0 1 = cc in omega arith)
 

@@ -9,19 +9,19 @@ use lib.Seq.{length-take-le, get_or-take}
 use Rattle.task.specs.Bounded.{upto}
 use Rattle.task.specs.Table.{Row, Task, task_of, row_at}
 use Rattle.task.specs.Words.{words_of, operator_words, head_of, padded}
-use Rattle.task.proofs.Bounded.{length-upto}
-use Rattle.task.proofs.Held.{length-formulas, length-operators, initial-held}
+use Rattle.task.proofs.Bounded.{length_upto}
+use Rattle.task.proofs.Held.{length_formulas, length_operators, initial_held}
 use Rattle.task.proofs.Trees.{rules_formulas, rules_effects}
 use Rattle.normal_form.specs.Builder.{St}
 use Rattle.normal_form.specs.Finished.{built, assembled, twin_values, finished}
 use Rattle.normal_form.specs.Compiled.{Fits}
 use Rattle.normal_form.specs.Inner.Allowed.{Allows}
 use Rattle.normal_form.proofs.Growth.{grows_refl}
-use Rattle.normal_form.proofs.Over.{building-within}
+use Rattle.normal_form.proofs.Over.{building_within}
 use Rattle.normal_form.proofs.Compiled.{fits_if}
-use Rattle.normal_form.proofs.Padded.{padded_over, padded-front}
-use Rattle.normal_form.proofs.ShapePassed.{finished-fine, finished-variables}
-use Rattle.normal_form.proofs.ShapeFinished.{finished-operators}
+use Rattle.normal_form.proofs.Padded.{padded_over, padded_front}
+use Rattle.normal_form.proofs.ShapePassed.{finished_fine, finished_variables}
+use Rattle.normal_form.proofs.ShapeFinished.{finished_operators}
 use Rattle.formula_builder.specs.declared.Step.{Step}
 use Rattle.formula_builder.specs.Inner.Held.{Store, held, size_of, Ready, Within}
 use Rattle.atom_sets.specs.Inner.Sets.{sets_end}
@@ -33,10 +33,10 @@ use Rattle.compile_parts.specs.Inner.Finishes.{Outputs, outputs, rules_of, Stand
 use Rattle.compiler.specs.Inner.Fills.{Counted, counts, lent_of, Begins, Holds}
 use Rattle.compiler.specs.Tables.{Tables, tables, room_of}
 use Rattle.compile_parts.proofs.Asked.{zero_at}
-use Rattle.compile_parts.proofs.Copied.{zeros, copied-rows}
-use Rattle.compiler.proofs.Source.{long, source, its-variables, few_effects}
+use Rattle.compile_parts.proofs.Copied.{zeros, copied_rows}
+use Rattle.compiler.proofs.Source.{long, source, its_variables, few_effects}
 use Rattle.compiler.proofs.Recalled.{in_order}
-use Rattle.compiler.proofs.Linked.{its-formulas, its-effects, precondition-below, effect-below, goal-below, state-built, goal-built, assembled-is, few-changes}
+use Rattle.compiler.proofs.Linked.{its_formulas, its_effects, precondition_below, effect_below, goal_below, state_built, goal_built, assembled_is, few_changes}
 
 -- the lent tables that finishing writes
 abbrev pub written_of : Tables → Outputs
@@ -46,28 +46,28 @@ module _ {g : Counted} {x : Tables} (b : Begins g x) where
   abbrev t : Task
   t = task_of (lent_of g)
 
-  variables-are : length (task_of (lent_of g)).initial ≡ g.frame.variables
-  variables-are = its-variables (lent_of g) b.passes
+  variables_are : length (task_of (lent_of g)).initial ≡ g.frame.variables
+  variables_are = its_variables (lent_of g) b.passes
 
-  blank-is : Blank g.frame g.formulas g.effects x.twins x.scratch
-  blank-is =
+  blank_is : Blank g.frame g.formulas g.effects x.twins x.scratch
+  blank_is =
       let s = source (lent_of g) b.passes in
       let w = long (lent_of g) b.passes in
-      let e = rw (length-formulas (lent_of g)) at (rw variables-are at (rules_effects t s)) in
+      let e = rw (length_formulas (lent_of g)) at (rw variables_are at (rules_effects t s)) in
       record {
         source =
             record {
               words = w.formulas;
               memo = omega (arith, b.memo);
-              limit = omega (arith, s.limits.formulas, length-formulas (lent_of g));
-              down = rw (its-formulas g b.passes) at (rw variables-are at (rules_formulas t s));
+              limit = omega (arith, s.limits.formulas, length_formulas (lent_of g));
+              down = rw (its_formulas g b.passes) at (rw variables_are at (rules_formulas t s));
             };
         effect_source =
             record {
               words = w.effects;
               memo = b.memo;
               limit = few_effects (lent_of g) b.passes;
-              down = rw (its-effects g b.passes) at e;
+              down = rw (its_effects g b.passes) at e;
             };
         imaged = b.imaged;
         twins = b.twins_space;
@@ -77,19 +77,19 @@ module _ {g : Counted} {x : Tables} (b : Begins g x) where
       }
 
   -- what building asks, with tables of 0 of the call's own
-  pub build-asks :
+  pub build_asks :
       (notes rows : ℕ)
       → sets_end g.frame ≤ notes
       → 9 * g.frame.rows + g.frame.variables ≤ rows
       → Builds (counts g) g.formulas g.effects g.operators x.twins x.scratch (replicate notes 0) (replicate rows 0) (replicate 6912 0)
-  build-asks notes rows n h =
+  build_asks notes rows n h =
       record {
-        blank = blank-is;
+        blank = blank_is;
         words = (long (lent_of g) b.passes).operators;
-        limit = omega (arith, (source (lent_of g) b.passes).limits.operators, length-operators (lent_of g));
-        precondition = precondition-below g b.passes;
-        effect = effect-below g b.passes;
-        goal = goal-below g b.passes;
+        limit = omega (arith, (source (lent_of g) b.passes).limits.operators, length_operators (lent_of g));
+        precondition = precondition_below g b.passes;
+        effect = effect_below g b.passes;
+        goal = goal_below g b.passes;
         notes_space = omega (arith, n, length-replicate {A = ℕ} notes 0);
         blank_notes = zero_at notes;
         fresh = record { room = omega (arith, h, length-replicate {A = ℕ} rows 0); limit = b.rows_limit; blank = zero_at rows };
@@ -100,25 +100,25 @@ module _ {g : Counted} {x : Tables} (b : Begins g x) where
   module _ {mid : Store} {memo records : List ℕ} {r : Step}
       (f : FromStart g.frame g.formulas g.effects g.operators g.count g.goal mid memo records r) where
     -- what fits is within the frame
-    built-over : Allows g.frame.variables (room_of x) g.frame.rows g.frame.twins g.room → r.full ≡ true → Fits (finished (task_of (lent_of g))) (room_of x) → ⊥
-    built-over a q fit =
-        let w = building-within t (room_of x) g.frame.rows g.frame.twins g.room (rw variables-are a) fit (built t).st (grows_refl (built t).st) in
+    built_over : Allows g.frame.variables (room_of x) g.frame.rows g.frame.twins g.room → r.full ≡ true → Fits (finished (task_of (lent_of g))) (room_of x) → ⊥
+    built_over a q fit =
+        let w = building_within t (room_of x) g.frame.rows g.frame.twins g.room (rw variables_are a) fit (built t).st (grows_refl (built t).st) in
         let v : Within g.frame (built t).st = record { rows = w.rows_within; twins = w.twins_within } in
-        f.over q (rw (state-built g b.passes b.imaged) at v) (few-changes g b.passes b.imaged fit.limits.effects)
+        f.over q (rw (state_built g b.passes b.imaged) at v) (few_changes g b.passes b.imaged fit.limits.effects)
 
     module _ (q : r.full ≡ false) where
       w : Whole g.frame g.formulas g.effects g.operators g.count g.goal mid memo records r
       w = f.done q
 
       held-is : held (size_of r) mid ≡ (built (task_of (lent_of g))).st
-      held-is = sym (state-built g b.passes b.imaged ∙ w.stood.state)
+      held-is = sym (state_built g b.passes b.imaged ∙ w.stood.state)
 
       ready : Ready g.frame (size_of r) mid
       ready = w.stood.stands.ready
 
-      twins-held : take r.twins mid.originals ≡ (built (task_of (lent_of g))).st.twins
+      twins_held : take r.twins mid.originals ≡ (built (task_of (lent_of g))).st.twins
       unfolding held
-      twins-held = ap (λ (s : St). s.twins) held-is
+      twins_held = ap (λ (s : St). s.twins) held-is
 
       many-twins : length (take r.twins mid.originals) ≡ r.twins
       many-twins = length-take-le r.twins mid.originals (omega (arith, ready.twins, ready.originals))
@@ -129,13 +129,13 @@ module _ {g : Counted} {x : Tables} (b : Begins g x) where
           omega (
             arith,
             get_or-take r.twins mid.originals k 0 h,
-            ap (λ (m : List ℕ). get_or m k 0) twins-held,
-            (finished-fine t (source (lent_of g) b.passes)).twin_below k (omega (arith, many-twins, ap length twins-held)),
-            variables-are,
+            ap (λ (m : List ℕ). get_or m k 0) twins_held,
+            (finished_fine t (source (lent_of g) b.passes)).twin_below k (omega (arith, many-twins, ap length twins_held)),
+            variables_are,
           )
 
-      rows-there : 3 * r.rows ≤ length mid.table
-      rows-there = omega (arith, ready.rows.within, ready.rows.room)
+      rows_there : 3 * r.rows ≤ length mid.table
+      rows_there = omega (arith, ready.rows.within, ready.rows.room)
 
       rows_fit : 3 * r.rows ≤ length x.formulas
       rows_fit = omega (arith, ready.rows.within, b.rows_space)
@@ -147,7 +147,7 @@ module _ {g : Counted} {x : Tables} (b : Begins g x) where
             assembles =
                 record {
                   words = (long (lent_of g) b.passes).operators;
-                  limit = omega (arith, s.limits.operators, length-operators (lent_of g));
+                  limit = omega (arith, s.limits.operators, length_operators (lent_of g));
                   room = space;
                   in_order = λ o h.
                       in_order g.frame g.formulas g.effects g.operators records g.count w.kept.each o h w.kept.limit;
@@ -166,16 +166,16 @@ module _ {g : Counted} {x : Tables} (b : Begins g x) where
                   twins = omega (arith, ready.twins, ready.originals);
                   space = omega (arith, ready.twins, b.initial_space);
                   below = originals-below;
-                  bits = λ i k. omega (arith, initial-held (lent_of g) i k, s.initial_bits i (omega (arith, variables-are)));
+                  bits = λ i k. omega (arith, initial_held (lent_of g) i k, s.initial_bits i (omega (arith, variables_are)));
                 };
             limit = omega (arith, ready.rows.within, ready.rows.limit);
-            there = rows-there;
+            there = rows_there;
             space = rows_fit;
           }
 
       rules-are : rules_of (counts g) r g.operators mid.originals records ≡ assembled (task_of (lent_of g))
       rules-are =
-          rw twins-held (sym (assembled-is g b.passes b.imaged records w.kept))
+          rw twins_held (sym (assembled_is g b.passes b.imaged records w.kept))
 
       rows_are : upto r.rows (row_at mid.table) ≡ (finished (task_of (lent_of g))).formulas
       unfolding finished held
@@ -186,7 +186,7 @@ module _ {g : Counted} {x : Tables} (b : Begins g x) where
       twins-are = ap (λ (s : St). s.twins) held-is
 
       rows-many : length (finished (task_of (lent_of g))).formulas ≡ r.rows
-      rows-many = ap length (sym rows_are) ∙ length-upto r.rows (row_at mid.table)
+      rows-many = ap length (sym rows_are) ∙ length_upto r.rows (row_at mid.table)
 
       twins-many : length (finished (task_of (lent_of g))).originals ≡ r.twins
       twins-many = ap length (sym twins-are) ∙ many-twins
@@ -200,17 +200,17 @@ module _ {g : Counted} {x : Tables} (b : Begins g x) where
         unfolding finished
         effects-many = h.effect_rows
 
-        it-fits : Fits (finished (task_of (lent_of g))) (room_of x)
-        it-fits =
+        it_fits : Fits (finished (task_of (lent_of g))) (room_of x)
+        it_fits =
             fits_if t (room_of x) (source (lent_of g) b.passes)
-            (omega (arith, variables-are, twins-many, ready.twins, b.variables_limit))
-            (omega (arith, variables-are, twins-many, ready.twins, b.initial_space))
+            (omega (arith, variables_are, twins-many, ready.twins, b.variables_limit))
+            (omega (arith, variables_are, twins-many, ready.twins, b.initial_space))
             (omega (arith, twins-many, ready.twins, b.twins_space))
             (omega (arith, rows-many, ready.rows.within, ready.rows.limit))
             (omega (arith, rows-many, ready.rows.within, b.rows_space))
             (omega (arith, effects-many, e.within, b.effects_limit))
             (omega (arith, effects-many, e.within, b.effects_space))
-            (omega (arith, length-operators (lent_of g), b.operators_space))
+            (omega (arith, length_operators (lent_of g), b.operators_space))
 
         heads :
             head_of (finished (task_of (lent_of g)))
@@ -218,16 +218,16 @@ module _ {g : Counted} {x : Tables} (b : Begins g x) where
         unfolding head_of
         heads = λ i.
             record {
-              variables = (finished-variables t ∙ ap₂ (λ (m n : ℕ). m + n) variables-are twins-many) i;
+              variables = (finished_variables t ∙ ap₂ (λ (m n : ℕ). m + n) variables_are twins-many) i;
               twins = twins-many i;
               formulas = rows-many i;
               effects = effects-many i;
-              operators = (finished-operators t ∙ length-operators (lent_of g)) i;
-              goal = goal-there i;
+              operators = (finished_operators t ∙ length_operators (lent_of g)) i;
+              goal = goal_there i;
             }
           where
-            goal-there : (finished (task_of (lent_of g))).goal ≡ r.row
-            goal-there = unfold finished in (goal-built g b.passes b.imaged ∙ w.value)
+            goal_there : (finished (task_of (lent_of g))).goal ≡ r.row
+            goal_there = unfold finished in (goal_built g b.passes b.imaged ∙ w.value)
 
         initial-words : y.values ≡ padded (length x.initial) (finished (task_of (lent_of g))).initial
         initial-words =
@@ -250,7 +250,7 @@ module _ {g : Counted} {x : Tables} (b : Begins g x) where
                 ∙ last
 
             words_long : length words ≡ g.frame.variables + r.twins
-            words_long = ap length words_are ∙ finished-variables t ∙ ap₂ (λ (m n : ℕ). m + n) variables-are twins-many
+            words_long = ap length words_are ∙ finished_variables t ∙ ap₂ (λ (m n : ℕ). m + n) variables_are twins-many
 
         it-holds :
             {memo2 : List ℕ}
@@ -260,23 +260,23 @@ module _ {g : Counted} {x : Tables} (b : Begins g x) where
             → Holds (lent_of g) x (tables y.values mid.originals y.table y.effects y.operators memo2) z
         it-holds long-originals long-out long-outs =
             record {
-              fits = it-fits;
+              fits = it_fits;
               head = heads ∙ ap (λ (n : Filled). record { variables = g.frame.variables + n.twins; twins = n.twins; formulas = n.rows; effects = n.effects; operators = g.count; goal = n.goal }) (sym e.answer);
               initial = initial-words;
               twins =
-                  padded-front mid.originals r.twins (omega (arith, ready.twins, ready.originals)) ready.past_twins
+                  padded_front mid.originals r.twins (omega (arith, ready.twins, ready.originals)) ready.past_twins
                   ∙ ap₂ padded long-originals twins-are;
               formulas =
                   e.table
-                  ∙ copied-rows mid.table x.formulas r.rows rows-there rows_fit b.blank.formulas
+                  ∙ copied_rows mid.table x.formulas r.rows rows_there rows_fit b.blank.formulas
                   ∙ ap (λ (k : List Row). padded (length x.formulas) (words_of k)) rows_are;
               effects = unfold finished in (h.effect_words ∙ ap (λ (m : ℕ). padded m (words_of (assembled t).effects)) long-out);
               operators = unfold finished in (h.held_operators ∙ ap (λ (m : ℕ). padded m (operator_words (assembled t).operators)) long-outs);
             }
 
     -- what finishing asks
-    pub finish-asks : length records ≡ length (replicate {A = ℕ} 6912 0) → Finishes (counts g) r g.initial g.operators mid.originals mid.table records (written_of x)
-    finish-asks space = record { stands = λ q. stands q (omega (arith, space, length-replicate {A = ℕ} 6912 0)) }
+    pub finish_asks : length records ≡ length (replicate {A = ℕ} 6912 0) → Finishes (counts g) r g.initial g.operators mid.originals mid.table records (written_of x)
+    finish_asks space = record { stands = λ q. stands q (omega (arith, space, length-replicate {A = ℕ} 6912 0)) }
 
     -- and what it leaves
     module _ {y : Outputs} {z : Filled} (k : Finished (counts g) r g.initial g.operators mid.originals mid.table records (written_of x) y z) where
@@ -296,5 +296,5 @@ module _ {g : Counted} {x : Tables} (b : Begins g x) where
           few = unfold finished in a.effects_allowed (length (assembled t).effects) fit.limits.effects fit.tables.effects
 
           go : (full : Bool) → r.full ≡ full → ⊥
-          go true p = built-over a p fit
+          go true p = built_over a p fit
           go false p = (k.over q).misfit p (rw (rules-are p) few)

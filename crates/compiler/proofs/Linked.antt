@@ -8,7 +8,7 @@ use Rattle.task.specs.Bounded.{upto}
 use Rattle.task.specs.Table.{Operator, Task, task_of, operator_at}
 use Rattle.task.specs.Check.{refusal}
 use Rattle.task.specs.Run.{operator_of}
-use Rattle.task.proofs.Held.{length-formulas, length-effects, length-operators, operator-held}
+use Rattle.task.proofs.Held.{length_formulas, length_effects, length_operators, operator_held}
 use Rattle.normal_form.specs.Builder.{start}
 use Rattle.normal_form.specs.Assembly.{Assembled, assemble, unassembled}
 use Rattle.normal_form.specs.Finished.{built, assembled, finished}
@@ -16,10 +16,10 @@ use Rattle.formula_builder.specs.declared.Frame.{Frame}
 use Rattle.images.specs.Inner.Images.{source_rows}
 use Rattle.conditions.specs.Inner.Conditions.{effect_rows}
 use Rattle.building.specs.Inner.Taken.{many, AllKept, whole_built}
-use Rattle.building.proofs.Parts.{made_here, same_state, same-value, same-operators-made}
+use Rattle.building.proofs.Parts.{made_here, same_state, same_value, same_operators_made}
 use Rattle.assembling.specs.Inner.Assembles.{assembled_in}
 use Rattle.compiler.specs.Inner.Fills.{Counted, lent_of}
-use Rattle.compiler.proofs.Source.{source, its-variables}
+use Rattle.compiler.proofs.Source.{source, its_variables}
 use Rattle.compiler.proofs.Recalled.{recalled, made_more}
 
 module _ (g : Counted) (passes : refusal (lent_of g) ≡ 0) where
@@ -29,62 +29,62 @@ module _ (g : Counted) (passes : refusal (lent_of g) ≡ 0) where
   abbrev frame : Frame
   frame = g.frame
 
-  pub its-formulas : (task_of (lent_of g)).formulas ≡ source_rows g.frame g.formulas
+  pub its_formulas : (task_of (lent_of g)).formulas ≡ source_rows g.frame g.formulas
   unfolding task_of source_rows
-  its-formulas = refl
+  its_formulas = refl
 
-  pub its-effects : (task_of (lent_of g)).effects ≡ effect_rows g.frame g.effects
+  pub its_effects : (task_of (lent_of g)).effects ≡ effect_rows g.frame g.effects
   unfolding task_of effect_rows
-  its-effects = refl
+  its_effects = refl
 
-  operator-is : (o : ℕ) → o < g.count → operator_of (task_of (lent_of g)) o ≡ operator_at g.operators o
+  operator_is : (o : ℕ) → o < g.count → operator_of (task_of (lent_of g)) o ≡ operator_at g.operators o
   unfolding operator_of
-  operator-is o h = operator-held (lent_of g) o h
+  operator_is o h = operator_held (lent_of g) o h
 
-  goal-is : (task_of (lent_of g)).goal ≡ g.goal
+  goal_is : (task_of (lent_of g)).goal ≡ g.goal
   unfolding task_of
-  goal-is = refl
+  goal_is = refl
 
   -- what is built is what the definition builds
-  pub state-built :
+  pub state_built :
       g.frame.copied ≡ 0
       → (built (task_of (lent_of g))).st
       ≡ (whole_built g.frame g.formulas g.effects g.operators g.count g.goal start).st
   unfolding built
-  state-built imaged =
-      same_state t frame g.formulas g.effects g.operators g.count g.goal imaged (its-variables (lent_of g) passes) its-formulas
-      its-effects (length-operators (lent_of g)) operator-is goal-is start
+  state_built imaged =
+      same_state t frame g.formulas g.effects g.operators g.count g.goal imaged (its_variables (lent_of g) passes) its_formulas
+      its_effects (length_operators (lent_of g)) operator_is goal_is start
 
-  pub goal-built :
+  pub goal_built :
       g.frame.copied ≡ 0
       → (built (task_of (lent_of g))).value.goal
       ≡ (whole_built g.frame g.formulas g.effects g.operators g.count g.goal start).value
   unfolding built
-  goal-built imaged =
-      same-value t frame g.formulas g.effects g.operators g.count g.goal imaged (its-variables (lent_of g) passes) its-formulas
-      its-effects (length-operators (lent_of g)) operator-is goal-is start
+  goal_built imaged =
+      same_value t frame g.formulas g.effects g.operators g.count g.goal imaged (its_variables (lent_of g) passes) its_formulas
+      its_effects (length_operators (lent_of g)) operator_is goal_is start
 
   module _ (o : ℕ) (h : o < g.count) where
     below : o < length (task_of (lent_of g)).operators
-    below = omega (arith, length-operators (lent_of g))
+    below = omega (arith, length_operators (lent_of g))
 
-    pub precondition-below : (operator_at g.operators o).precondition < g.frame.formulas
+    pub precondition_below : (operator_at g.operators o).precondition < g.frame.formulas
     unfolding operator_of
-    precondition-below = omega (arith, ap (λ (x : Operator). x.precondition) (operator-is o h), ((source (lent_of g) passes).operator o below).formula, length-formulas (lent_of g))
+    precondition_below = omega (arith, ap (λ (x : Operator). x.precondition) (operator_is o h), ((source (lent_of g) passes).operator o below).formula, length_formulas (lent_of g))
 
-    pub effect-below : (operator_at g.operators o).effect < g.frame.effects
+    pub effect_below : (operator_at g.operators o).effect < g.frame.effects
     unfolding operator_of
-    effect-below = omega (arith, ap (λ (x : Operator). x.effect) (operator-is o h), ((source (lent_of g) passes).operator o below).changes, length-effects (lent_of g))
+    effect_below = omega (arith, ap (λ (x : Operator). x.effect) (operator_is o h), ((source (lent_of g) passes).operator o below).changes, length_effects (lent_of g))
 
   -- what is assembled is so from the operators that are built
-  assembled-made :
+  assembled_made :
       g.frame.copied ≡ 0
       → assembled (task_of (lent_of g))
       ≡ assemble g.frame.variables (built (task_of (lent_of g))).st.twins unassembled
       (upto g.count (made_here g.frame g.formulas g.effects g.operators))
   unfolding assembled
-  assembled-made imaged =
-      rw (its-variables (lent_of g) passes)
+  assembled_made imaged =
+      rw (its_variables (lent_of g) passes)
       (ap (assemble g.frame.variables (built t).st.twins unassembled) all_made)
     where
       all_made :
@@ -92,33 +92,33 @@ module _ (g : Counted) (passes : refusal (lent_of g) ≡ 0) where
           ≡ upto g.count (made_here g.frame g.formulas g.effects g.operators)
       all_made =
           unfold built in
-          same-operators-made t frame g.formulas g.effects g.operators g.count g.goal imaged (its-variables (lent_of g) passes) its-formulas
-          its-effects (length-operators (lent_of g)) operator-is goal-is
+          same_operators_made t frame g.formulas g.effects g.operators g.count g.goal imaged (its_variables (lent_of g) passes) its_formulas
+          its_effects (length_operators (lent_of g)) operator_is goal_is
 
   -- and from what was recorded of them
-  pub assembled-is :
+  pub assembled_is :
       g.frame.copied ≡ 0
       → (records : List ℕ)
       → AllKept g.frame g.formulas g.effects g.operators records g.count (many g.frame g.formulas g.effects g.operators g.count)
       → assembled (task_of (lent_of g)) ≡ assembled_in g.frame.variables (built (task_of (lent_of g))).st.twins g.operators records g.count
-  assembled-is imaged records all =
-      assembled-made imaged
+  assembled_is imaged records all =
+      assembled_made imaged
       ∙ sym
       (recalled frame g.formulas g.effects g.operators records g.count all.each g.frame.variables
       (built t).st.twins)
 
-  pub few-changes :
+  pub few_changes :
       g.frame.copied ≡ 0
       → length (finished (task_of (lent_of g))).effects ≤ 4096
       → many g.frame g.formulas g.effects g.operators g.count ≤ 2048
   unfolding finished
-  few-changes imaged h =
+  few_changes imaged h =
       omega (
         arith,
         h,
-        ap (λ (a : Assembled). length a.effects) (assembled-made imaged),
+        ap (λ (a : Assembled). length a.effects) (assembled_made imaged),
         made_more frame g.formulas g.effects g.operators g.frame.variables (built t).st.twins g.count,
       )
 
-  pub goal-below : g.goal < g.frame.formulas
-  goal-below = omega (arith, (source (lent_of g) passes).goal_is_formula, length-formulas (lent_of g), goal-is)
+  pub goal_below : g.goal < g.frame.formulas
+  goal_below = omega (arith, (source (lent_of g) passes).goal_is_formula, length_formulas (lent_of g), goal_is)

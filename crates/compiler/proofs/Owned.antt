@@ -9,7 +9,7 @@ use Rattle.compile_parts.specs.Inner.Builds.{Builds}
 use Rattle.compiler.specs.Tables.{Tables}
 use Rattle.compiler.specs.Inner.Fills.{Counted, counts, lent_of, Begins, BeginsSmall}
 use Rattle.compiler.proofs.Source.{few_effects}
-use Rattle.compiler.proofs.Filled.{build-asks}
+use Rattle.compiler.proofs.Filled.{build_asks}
 
 -- so much room the sets take, with the words before them
 sets_room :
@@ -23,16 +23,16 @@ sets_room frame s e h g =
     omega (arith, x, g)
 
 module _ {g : Counted} {x : Tables} where
-  pub owns-large :
+  pub owns_large :
       Begins g x
       → Builds (counts g) g.formulas g.effects g.operators x.twins x.scratch (replicate 610304 0) (replicate 37376 0) (replicate 6912 0)
-  owns-large b =
+  owns_large b =
       let room = sets_room g.frame 64 4096 (omega (arith, b.variables_limit)) (few_effects (lent_of g) b.passes) in
-      build-asks b 610304 37376 (omega (arith, room)) (omega (arith, b.rows_limit, b.variables_limit))
+      build_asks b 610304 37376 (omega (arith, room)) (omega (arith, b.rows_limit, b.variables_limit))
 
-  pub owns-small :
+  pub owns_small :
       BeginsSmall g x
       → Builds (counts g) g.formulas g.effects g.operators x.twins x.scratch (replicate 14336 0) (replicate 4736 0) (replicate 6912 0)
-  owns-small s =
+  owns_small s =
       let room = sets_room g.frame 16 512 (omega (arith, s.few_variables)) s.few_effects in
-      build-asks s.begins 14336 4736 (omega (arith, room)) (omega (arith, s.few_rows, s.few_variables))
+      build_asks s.begins 14336 4736 (omega (arith, room)) (omega (arith, s.few_rows, s.few_variables))

@@ -7,17 +7,17 @@ use mathlib.Core.List.{List, [], ◌∷◌}
 use lib.ListN.{length, get_or}
 use Rattle.task.specs.Bounded.{upto}
 use Rattle.task.specs.Table.{row_at, operator_at}
-use Rattle.task.proofs.Bounded.{getD-upto}
+use Rattle.task.proofs.Bounded.{getD_upto}
 use Rattle.normal_form.specs.Operators.{Changes, Built}
 use Rattle.normal_form.specs.Assembly.{Assembled, assemble_operator, assemble, unassembled}
-use Rattle.normal_form.proofs.ShapeCounts.{assemble-split}
+use Rattle.normal_form.proofs.ShapeCounts.{assemble_split}
 use Rattle.normal_form.proofs.ShapeFinished.{no_changes}
 use Rattle.normal_form.proofs.ShapeRules.{All, none, also}
 use Rattle.formula_builder.specs.declared.Frame.{Frame}
 use Rattle.change_records.specs.Inner.Recorded.{acting, change_at, changes_from}
-use Rattle.change_records.proofs.Acting.{acting-operator, operator-more}
+use Rattle.change_records.proofs.Acting.{acting_operator, operator_more}
 use Rattle.building.specs.Inner.Taken.{changes_here, many, Kept}
-use Rattle.building.proofs.Kept.{many-suc, many-fewer, acting-below}
+use Rattle.building.proofs.Kept.{many_suc, many_fewer, acting_below}
 use Rattle.building.proofs.Parts.{made_here}
 use Rattle.assembling.specs.Inner.Assembles.{changes_between, built_of, begins_at, built_in, assembled_in, InOrder}
 
@@ -31,20 +31,20 @@ module _ (n : ℕ) (twins : List ℕ) where
       → assemble n twins unassembled (upto (suc m) f) ≡ assemble_operator n twins (assemble n twins unassembled (upto m f)) (f m)
   unfolding upto
   last_one m f =
-      assemble-split n twins unassembled (upto m f) (f m ∷ []) ∙ one (assemble n twins unassembled (upto m f)) (f m)
+      assemble_split n twins unassembled (upto m f) (f m ∷ []) ∙ one (assemble n twins unassembled (upto m f)) (f m)
     where
       one : (a : Assembled) (b : Built) → assemble n twins a (b ∷ []) ≡ assemble_operator n twins a b
       one a b = unfold assemble in refl
 
-  acted-same :
+  acted_same :
       (m : ℕ) (f g : ℕ → Built)
       → ((o : ℕ) → o < m → g o ≡ acted (f o))
       → assemble n twins unassembled (upto m g) ≡ assemble n twins unassembled (upto m f)
-  acted-same zero f g same = unfold upto in refl
-  acted-same (suc m) f g same =
+  acted_same zero f g same = unfold upto in refl
+  acted_same (suc m) f g same =
       last_one m g
-      ∙ ap₂ (assemble_operator n twins) (acted-same m f g (λ o h. same o (omega arith))) (same m (omega arith))
-      ∙ acting-operator n twins (assemble n twins unassembled (upto m f)) (f m)
+      ∙ ap₂ (assemble_operator n twins) (acted_same m f g (λ o h. same o (omega arith))) (same m (omega arith))
+      ∙ acting_operator n twins (assemble n twins unassembled (upto m f)) (f m)
       ∙ sym (last_one m f)
 
 -- each of a list, at its place
@@ -55,28 +55,28 @@ all_has d (c ∷ cs) (suc i) (also p ps) h = all_has d cs i ps (omega arith)
 
 -- The operators that are recorded.
 module _ (frame : Frame) (formulas effects operators records : List ℕ) (n : ℕ) (each : (o : ℕ) → o < n → Kept frame formulas effects operators records o) where
-  begins-is : (o : ℕ) → o < n → begins_at records o ≡ many frame formulas effects operators o
+  begins_is : (o : ℕ) → o < n → begins_at records o ≡ many frame formulas effects operators o
   unfolding begins_at
-  begins-is zero h = unfold many in refl
-  begins-is (suc o) h = (each o (omega arith)).end
+  begins_is zero h = unfold many in refl
+  begins_is (suc o) h = (each o (omega arith)).end
 
-  its-changes :
+  its_changes :
       (o : ℕ)
       → o < n
       → changes_between records (begins_at records o) (row_at records o).a ≡ acting (changes_here frame formulas effects operators o)
   unfolding changes_between
-  its-changes o h =
+  its_changes o h =
       let width : (row_at records o).a - begins_at records o ≡ length (acting (changes_here frame formulas effects operators o)) =
-      omega (arith, (each o h).end, begins-is o h, many-suc frame formulas effects operators o) in
-      rw (width, begins-is o h) (each o h).changes
+      omega (arith, (each o h).end, begins_is o h, many_suc frame formulas effects operators o) in
+      rw (width, begins_is o h) (each o h).changes
 
-  its-built : (o : ℕ) → o < n → built_in operators records o ≡ acted (made_here frame formulas effects operators o)
+  its_built : (o : ℕ) → o < n → built_in operators records o ≡ acted (made_here frame formulas effects operators o)
   unfolding built_in built_of
-  its-built o h =
+  its_built o h =
       λ i.
       record {
         precondition = (each o h).precondition i;
-        changes = its-changes o h i;
+        changes = its_changes o h i;
         source = operator_at operators o;
       }
 
@@ -86,23 +86,23 @@ module _ (frame : Frame) (formulas effects operators records : List ℕ) (n : �
       ≡ assemble variables twins unassembled (upto n (made_here frame formulas effects operators))
   unfolding assembled_in
   recalled variables twins =
-      acted-same variables twins n (made_here frame formulas effects operators) (built_in operators records) its-built
+      acted_same variables twins n (made_here frame formulas effects operators) (built_in operators records) its_built
 
-  its-change-below : (o i : ℕ) → o < n → begins_at records o ≤ i → i < (row_at records o).a → (change_at records i).variable < frame.variables
+  its_change_below : (o i : ℕ) → o < n → begins_at records o ≤ i → i < (row_at records o).a → (change_at records i).variable < frame.variables
   unfolding changes_from
-  its-change-below o i h from before =
+  its_change_below o i h from before =
       let all = acting (changes_here frame formulas effects operators o) in
       let j = i - begins_at records o in
-      let long : j < length all = omega (arith, (each o h).end, begins-is o h, many-suc frame formulas effects operators o) in
-      let here : many frame formulas effects operators o + j ≡ i = omega (arith, begins-is o h) in
+      let long : j < length all = omega (arith, (each o h).end, begins_is o h, many_suc frame formulas effects operators o) in
+      let here : many frame formulas effects operators o + j ≡ i = omega (arith, begins_is o h) in
       let read : get_or all j no_changes ≡ change_at records i =
       ap (λ (l : List Changes). get_or l j no_changes) (sym (each o h).changes)
-      ∙ getD-upto (length all) (λ k. change_at records (many frame formulas effects operators o + k)) j no_changes long
+      ∙ getD_upto (length all) (λ k. change_at records (many frame formulas effects operators o + k)) j no_changes long
       ∙ ap (change_at records) here in
       omega (
         arith,
         ap (λ (c : Changes). c.variable) read,
-        all_has no_changes all j (acting-below frame formulas effects operators o) long,
+        all_has no_changes all j (acting_below frame formulas effects operators o) long,
       )
 
   pub in_order :
@@ -113,9 +113,9 @@ module _ (frame : Frame) (formulas effects operators records : List ℕ) (n : �
   in_order o h few =
       let end = (each o h).end in
       record {
-        order = omega (arith, end, begins-is o h, many-suc frame formulas effects operators o);
-        limit = omega (arith, end, many-fewer frame formulas effects operators (suc o) n (omega arith), few);
-        below = λ i from before. its-change-below o i h from before;
+        order = omega (arith, end, begins_is o h, many_suc frame formulas effects operators o);
+        limit = omega (arith, end, many_fewer frame formulas effects operators (suc o) n (omega arith), few);
+        below = λ i from before. its_change_below o i h from before;
       }
 
 -- two effect rows for each
@@ -129,7 +129,7 @@ made_more frame formulas effects operators variables twins (suc n) =
     omega (
       arith,
       made_more frame formulas effects operators variables twins n,
-      many-suc frame formulas effects operators n,
+      many_suc frame formulas effects operators n,
       ap (λ (a : Assembled). length a.effects) (last_one variables twins n made),
-      operator-more variables twins (assemble variables twins unassembled (upto n made)) (made n),
+      operator_more variables twins (assemble variables twins unassembled (upto n made)) (made n),
     )

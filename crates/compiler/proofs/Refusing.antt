@@ -5,52 +5,52 @@ use mathlib.Core.Path.{◌≡◌, refl, sym}
 use lib.ListN.{length}
 use Rattle.task.specs.Table.{Lent, Task, task_of, operator_width}
 use Rattle.task.specs.Check.{refusal}
-use Rattle.task.proofs.Held.{length-operators}
+use Rattle.task.proofs.Held.{length_operators}
 use Rattle.normal_form.specs.Assembly.{unassembled}
 use Rattle.normal_form.specs.Finished.{built, assembled, finished}
 use Rattle.normal_form.specs.Compiled.{Room, Fits, nothing_given, compiling}
 use Rattle.normal_form.proofs.Growth.{longer}
-use Rattle.normal_form.proofs.Compiled.{by-tables, by-twins, by-scratch, by-room}
-use Rattle.normal_form.proofs.ShapeAssembled.{assemble-effects}
-use Rattle.normal_form.proofs.ShapeFinished.{finished-operators}
-use Rattle.normal_form.proofs.ShapePassed.{finished-variables}
+use Rattle.normal_form.proofs.Compiled.{by_tables, by_twins, by_scratch, by_room}
+use Rattle.normal_form.proofs.ShapeAssembled.{assemble_effects}
+use Rattle.normal_form.proofs.ShapeFinished.{finished_operators}
+use Rattle.normal_form.proofs.ShapePassed.{finished_variables}
 use Rattle.compiler.specs.Inner.Numbers.{Numbered}
-use Rattle.compiler.proofs.Source.{its-variables}
+use Rattle.compiler.proofs.Source.{its_variables}
 
 module _ (l : Lent) (room : Room) where
   refused : (n : ℕ) → compiling l room ≡ nothing_given (suc n) room → Numbered l room (suc n)
   refused n e = record { refuses = λ _. e; passed = λ z. absurd (omega (arith, z)) }
 
-  pub by-the-check : (n : ℕ) → n ≡ refusal l → (n ≡ 0 → ⊥) → Numbered l room n
-  by-the-check zero e d = absurd (d refl)
-  by-the-check (suc n) e d = refused n (by-tables l room n (sym e))
+  pub by_the_check : (n : ℕ) → n ≡ refusal l → (n ≡ 0 → ⊥) → Numbered l room n
+  by_the_check zero e d = absurd (d refl)
+  by_the_check (suc n) e d = refused n (by_tables l room n (sym e))
 
   module _ (passes : refusal l ≡ 0) where
-    pub some-twins : (l.head.twins ≡ 0 → ⊥) → Numbered l room 13
-    some-twins d = refused 12 (by-twins l room passes d)
+    pub some_twins : (l.head.twins ≡ 0 → ⊥) → Numbered l room 13
+    some_twins d = refused 12 (by_twins l room passes d)
 
     module _ (none : l.head.twins ≡ 0) where
-      pub short-scratch : room.scratch < 2 * l.head.formulas + 2 * l.head.effects → Numbered l room 14
-      short-scratch h = refused 13 (by-scratch l room passes none h)
+      pub short_scratch : room.scratch < 2 * l.head.formulas + 2 * l.head.effects → Numbered l room 14
+      short_scratch h = refused 13 (by_scratch l room passes none h)
 
       module _ (memo : 2 * l.head.formulas + 2 * l.head.effects ≤ room.scratch) where
         abbrev t : Task
         t = task_of l
 
         no_room : (Fits (finished (task_of l)) room → ⊥) → Numbered l room 15
-        no_room n = refused 14 (by-room l room passes none memo n)
+        no_room n = refused 14 (by_room l room passes none memo n)
 
         pub short-initial : room.initial < l.head.variables → Numbered l room 15
-        short-initial h = no_room (λ fit. omega (arith, fit.tables.initial, finished-variables t, its-variables l passes))
+        short-initial h = no_room (λ fit. omega (arith, fit.tables.initial, finished_variables t, its_variables l passes))
 
         pub short-operators : room.operators < operator_width * l.head.operators → Numbered l room 15
-        short-operators h = no_room (λ fit. omega (arith, fit.tables.operators, finished-operators t, length-operators l))
+        short-operators h = no_room (λ fit. omega (arith, fit.tables.operators, finished_operators t, length_operators l))
 
         one_effect : 1 ≤ length (finished (task_of l)).effects
         unfolding finished assembled unassembled
         one_effect =
             longer unassembled.effects (assembled t).effects
-            (assemble-effects (length t.initial) (built t).st.twins unassembled (built t).value.operators)
+            (assemble_effects (length t.initial) (built t).st.twins unassembled (built t).value.operators)
 
         pub short-effects : room.effects < 3 → Numbered l room 15
         short-effects h = no_room (λ fit. omega (arith, fit.tables.effects, one_effect))

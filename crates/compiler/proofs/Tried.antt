@@ -14,15 +14,15 @@ use Rattle.compiler.proofs.Cleared.{cleared_again}
 
 -- The two ways out of a frame: without room all is cleared again.
 module _ {g : Counted} {x : Tables} {z : Filled} where
-  pub tried-over : {y w : Tables} → Begins g x → room_of y ≡ room_of x → Blanked y w → z ≡ nothing_filled → Tries g x w z
-  tried-over b long c e =
+  pub tried_over : {y w : Tables} → Begins g x → room_of y ≡ room_of x → Blanked y w → z ≡ nothing_filled → Tries g x w z
+  tried_over b long c e =
       record {
         done = λ q. absurd (true≢false (sym (ap (λ (r : Filled). r.full) e) ∙ q));
         over = λ _. cleared_again b.blank long c;
       }
 
-  pub tried-done : {y : Tables} → z.full ≡ false → (z.full ≡ false → Holds (lent_of g) x y z) → Tries g x y z
-  tried-done q h = record { done = h; over = λ p. absurd (true≢false (sym p ∙ q)) }
+  pub tried_done : {y : Tables} → z.full ≡ false → (z.full ≡ false → Holds (lent_of g) x y z) → Tries g x y z
+  tried_done q h = record { done = h; over = λ p. absurd (true≢false (sym p ∙ q)) }
 
 module _ {c r : Counts} {i f e o : List ℕ} {x : Tables} (k : Fewer c r) where
   small_by :
@@ -56,8 +56,8 @@ module _ {c r : Counts} {i f e o : List ℕ} {x : Tables} (k : Fewer c r) where
         few_variables = variables;
       }
 
-  pub small-asks : {m : Bool} → Small c m → m ≡ true → Roomy (counted c i f e o) x → BeginsSmall (counted r i f e o) x
-  small-asks s q b =
+  pub small_asks : {m : Bool} → Small c m → m ≡ true → Roomy (counted c i f e o) x → BeginsSmall (counted r i f e o) x
+  small_asks s q b =
       rw k.same (small_by r.frame.rows k.few k.less (s.few_effects q) (s.few_variables q) b.begins)
 
   module _ {y : Tables} {z : Filled} (t : Tries (counted r i f e o) x y z) where

@@ -9,10 +9,10 @@ use Rattle.task.specs.declared.Head.{Head}
 use Rattle.task.specs.Table.{Lent, lent, task_of}
 use Rattle.task.specs.Check.{refusal}
 use Rattle.task.specs.Words.{head_of}
-use Rattle.task.proofs.Kept.{kept-rules, rules-kept}
+use Rattle.task.proofs.Kept.{kept_rules, rules_kept}
 use Rattle.normal_form.specs.Finished.{finished}
 use Rattle.normal_form.specs.Compiled.{nothing_given, task_given, compiling, not_compiled, compiled_head}
-use Rattle.normal_form.proofs.Compiled.{by-room, succeeds}
+use Rattle.normal_form.proofs.Compiled.{by_room, succeeds}
 use Rattle.compile_parts.specs.declared.Counts.{Counts}
 use Rattle.compile_parts.specs.declared.Filled.{Filled}
 use Rattle.compiler.specs.declared.Lengths.{Lengths}
@@ -54,9 +54,9 @@ same_task l none = λ i.
 -- and passes too
 still_passes : (l : Lent) → l.head.twins ≡ 0 → refusal l ≡ 0 → refusal (without l) ≡ 0
 still_passes l none passes =
-    let kept = kept-rules l passes in
+    let kept = kept_rules l passes in
     let w = kept.0 in
-    rules-kept (without l)
+    rules_kept (without l)
     (record { initial = w.initial; twins = omega arith; formulas = w.formulas; effects = w.effects; operators = w.operators })
     (rw (same_task l none) kept.1)
 
@@ -102,14 +102,14 @@ refuses_first l n e b = refuses l n (rw (same_room b) at e) b
 -- With no number, over tables that are all 0.
 module _ {l : Lent} {x : Tables} (p : Passed l (room_of x)) where
   module _ {c : Counts} (k : CountsOf l.head (lengths_of x) c) where
-    roomy-by :
+    roomy_by :
         (rows twins room : ℕ)
         → Least 4096 (length x.formulas / 3) rows
         → MostTwins l.head.variables (length x.initial) (length x.twins) twins
         → Least 4096 (length x.effects / 3) room
         → Blanked x x
         → Roomy (counted (counts_by l.head rows twins room) l.initial l.formulas l.effects l.operators) x
-    roomy-by rows twins room r w f blank =
+    roomy_by rows twins room r w f blank =
         record {
           begins =
               record {
@@ -136,7 +136,7 @@ module _ {l : Lent} {x : Tables} (p : Passed l (room_of x)) where
         }
 
     pub roomy : Blanked x x → Roomy (counted c l.initial l.formulas l.effects l.operators) x
-    roomy blank = rw k.same (roomy-by c.frame.rows c.frame.twins c.room k.rows k.twins k.room blank)
+    roomy blank = rw k.same (roomy_by c.frame.rows c.frame.twins c.room k.rows k.twins k.room blank)
 
     module _ {y : Tables} {r : Filled} (f : Fills (counted c l.initial l.formulas l.effects l.operators) x y r) where
       abbrev fills_it : Fills (counted (counts_by l.head c.frame.rows c.frame.twins c.room) l.initial l.formulas l.effects l.operators) x y r
@@ -146,7 +146,7 @@ module _ {l : Lent} {x : Tables} (p : Passed l (room_of x)) where
       filled-over b q =
           let again : Blanked x y = rw (fills_it.tries.over q) b in
           refuses l 15
-          (by-room l (room_of x) p.passes p.untwinned p.memo (λ fit. fills_it.misfit q (rw (same_task l p.untwinned) fit)))
+          (by_room l (room_of x) p.passes p.untwinned p.memo (λ fit. fills_it.misfit q (rw (same_task l p.untwinned) fit)))
           again
 
       held : r.full ≡ false → Holds (without l) x y r

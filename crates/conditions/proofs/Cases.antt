@@ -8,27 +8,27 @@ use lib.ListN.{length}
 use lib.Dec.{eqb}
 use borrow.Author.Tests.{eq-eqb, ne_eqb}
 use Rattle.task.specs.Table.{Row, row_at}
-use Rattle.task.proofs.Bounded.{length-upto}
+use Rattle.task.proofs.Bounded.{length_upto}
 use Rattle.normal_form.specs.Builder.{Build, give, bind, join, pair, Polarity, plain, negated, opposite, image_of_false, image_of_true}
 use Rattle.normal_form.specs.Conditions.{guarded}
 use Rattle.normal_form.proofs.Growth.{steady_give, steady_bind, steady_join}
-use Rattle.normal_form.proofs.Steady.{steady-guarded}
+use Rattle.normal_form.proofs.Steady.{steady_guarded}
 use Rattle.formula_builder.specs.declared.Words.{Words}
 use Rattle.formula_builder.specs.declared.Frame.{Frame}
 use Rattle.formula_builder.specs.declared.Size.{Size}
 use Rattle.formula_builder.specs.declared.Step.{Step}
 use Rattle.formula_builder.specs.Inner.Held.{Store, row_of, held, size_of, stepped, side}
-use Rattle.formula_builder.proofs.Steps.{builds-done, falsity_small}
+use Rattle.formula_builder.proofs.Steps.{builds_done, falsity_small}
 use Rattle.images.specs.Inner.Images.{tree, becoming, image_at, Images, Asks as AsksImage}
 use Rattle.images.proofs.Memos.{steady_becoming, steady_image_at}
 use Rattle.atom_sets.specs.Inner.Sets.{lacks, InSet}
 use Rattle.conditions.specs.declared.Target.{Target}
 use Rattle.conditions.specs.Inner.Conditions.{atom_of, acts, atom_row, condition_at, AsksKept, Recalls, Asks, Conditions}
 use Rattle.conditions.specs.Inner.Joins.{AsksJoin, Joined}
-use Rattle.conditions.proofs.Rows.{join-with-left, join-with-right, both-lower, under-lower, under-else, of-atom, of-both, of-under}
+use Rattle.conditions.proofs.Rows.{join_with_left, join_with_right, both_lower, under_lower, under_else, of_atom, of_both, of_under}
 use Rattle.conditions.proofs.Notes.{steady_condition_at, looks}
-use Rattle.conditions.proofs.Memos.{conditions-as, asks-next, conditions_of_images, conditions_leaf, conditions_bind, conditions_stop, conditions_known}
-use Rattle.conditions.proofs.Joins.{conditions-joined}
+use Rattle.conditions.proofs.Memos.{conditions_as, asks_next, conditions_of_images, conditions_leaf, conditions_bind, conditions_stop, conditions_known}
+use Rattle.conditions.proofs.Joins.{conditions_joined}
 
 truth_small : (p : Polarity) → image_of_true p < 2
 truth_small plain = omega arith
@@ -70,16 +70,16 @@ answers_standing :
 unfolding give
 answers_standing v x g f h =
     conditions_leaf (steady_give v) (x.noted g) (x.memo g) (x.effect_memo g)
-    (builds-done f (record { value = refl; state = refl; ready = (x.builds.done g).ready; below = h; grew = omega arith }))
+    (builds_done f (record { value = refl; state = refl; ready = (x.builds.done g).ready; below = h; grew = omega arith }))
 
 -- Row e, with what its condition asks.
 module _ {frame : Frame} {formulas effects notes : List ℕ} {t : Target} {at : Size} {before : Store} {scratch : List ℕ} {e : ℕ}
     (a : Asks frame formulas effects notes t at before scratch e) where
-  pub kept-asks : AsksKept frame notes scratch t e
-  kept-asks = record { looks = looks a a.noted.columns; variable = a.variable; formulas = a.source.limit; memo = a.effect_source.memo }
+  pub kept_asks : AsksKept frame notes scratch t e
+  kept_asks = record { looks = looks a a.noted.columns; variable = a.variable; formulas = a.source.limit; memo = a.effect_source.memo }
 
-  pub in-set : InSet frame t.variable e
-  in-set =
+  pub in_set : InSet frame t.variable e
+  in_set =
       record {
         variables = omega (arith, a.ready.variables);
         limit = a.effect_source.limit;
@@ -88,8 +88,8 @@ module _ {frame : Frame} {formulas effects notes : List ℕ} {t : Target} {at : 
       }
 
   -- a lower row
-  lower-asks : (i : ℕ) → i < e → Asks frame formulas effects notes t at before scratch i
-  lower-asks i h =
+  lower_asks : (i : ℕ) → i < e → Asks frame formulas effects notes t at before scratch i
+  lower_asks i h =
       record {
         source = a.source;
         effect_source = a.effect_source;
@@ -101,13 +101,13 @@ module _ {frame : Frame} {formulas effects notes : List ℕ} {t : Target} {at : 
         effect = omega (arith, a.effect, h);
       }
 
-  pub answers-known :
+  pub answers_known :
       {w : ℕ}
       → Recalls frame notes scratch t e w
       → 0 < w
       → Conditions (condition_at frame formulas effects t e) frame formulas effects notes at before before scratch
       (stepped at.rows at.twins (w - 1))
-  answers-known r h = conditions_known a (r.known formulas effects (held at before) a.noted a.effect_memo h)
+  answers_known r h = conditions_known a (r.known formulas effects (held at before) a.noted a.effect_memo h)
 
   -- a constant
   constant :
@@ -120,42 +120,42 @@ module _ {frame : Frame} {formulas effects notes : List ℕ} {t : Target} {at : 
       conditions_known a
       (record {
         again = ap (λ (m : Build ℕ). m (held at before)) q;
-        below = rw (length-upto at.rows (row_at before.table)) (omega (arith, h, a.ready.two));
+        below = rw (length_upto at.rows (row_at before.table)) (omega (arith, h, a.ready.two));
       })
 
-  pub answers-lacking :
+  pub answers_lacking :
       {x : ℕ}
       → true ≡ lacks frame notes t.clear t.variable e
       → x ≡ image_of_false (side t.negated)
       → Conditions (condition_at frame formulas effects t e) frame formulas effects notes at before before scratch (stepped at.rows at.twins x)
-  answers-lacking h q =
+  answers_lacking h q =
       let idle = (a.noted.sets.alone formulas t.clear t.variable e a.variable a.effect (sym h)).idle t refl refl in
       rw q (constant (image_of_false (side t.negated)) (falsity_small (side t.negated)) idle)
 
   -- by its words
   module _ (w : Words) (q : row_of w ≡ row_at effects e) where
-    kind-read : w.kind ≡ (row_at effects e).kind
-    kind-read = ap (λ (r : Row). r.kind) q
+    kind_read : w.kind ≡ (row_at effects e).kind
+    kind_read = ap (λ (r : Row). r.kind) q
 
-    pub answers-atom :
+    pub answers_atom :
         {x : ℕ}
         → w.kind < 3
         → x ≡ atom_row t (row_of w)
         → Conditions (condition_at frame formulas effects t e) frame formulas effects notes at before before scratch (stepped at.rows at.twins x)
-    answers-atom low h =
+    answers_atom low h =
         rw (h, q)
         (constant (atom_row t (row_at effects e)) (atom_small t (row_at effects e))
-        (of-atom frame formulas effects scratch a.effect_source e a.effect t (λ k. omega (arith, kind-read, low, k))
-        (λ k. omega (arith, kind-read, low, k))))
+        (of_atom frame formulas effects scratch a.effect_source e a.effect t (λ k. omega (arith, kind_read, low, k))
+        (λ k. omega (arith, kind_read, low, k))))
 
     pub composed : 3 ≤ w.kind → 3 ≤ (row_at effects e).kind
-    composed h = omega (arith, kind-read, h)
+    composed h = omega (arith, kind_read, h)
 
-    pub is-both : w.kind ≡ 3 → (row_at effects e).kind ≡ 3
-    is-both k = sym kind-read ∙ k
+    pub is_both : w.kind ≡ 3 → (row_at effects e).kind ≡ 3
+    is_both k = sym kind_read ∙ k
 
-    pub is-under : 3 ≤ (row_at effects e).kind → (w.kind ≡ 3 → ⊥) → (row_at effects e).kind ≡ 4
-    is-under c other = under-else frame formulas effects scratch a.effect_source e a.effect c (λ k. other (kind-read ∙ k))
+    pub is_under : 3 ≤ (row_at effects e).kind → (w.kind ≡ 3 → ⊥) → (row_at effects e).kind ≡ 4
+    is_under c other = under_else frame formulas effects scratch a.effect_source e a.effect c (λ k. other (kind_read ∙ k))
 
 -- Row e is both, with the words w.
 module _ {frame : Frame} {formulas effects notes : List ℕ} {t : Target} {at : Size} {before : Store} {scratch : List ℕ} {e : ℕ}
@@ -167,39 +167,39 @@ module _ {frame : Frame} {formulas effects notes : List ℕ} {t : Target} {at : 
     abbrev right_of : ℕ → Build ℕ
     right_of l = bind (condition_at frame formulas effects t w.b) (λ r. join_both l r)
 
-    pub effects-lower : (w.a < e) × (w.b < e)
-    effects-lower =
-        let l = both-lower frame formulas effects scratch a.effect_source e a.effect three in
+    pub effects_lower : (w.a < e) × (w.b < e)
+    effects_lower =
+        let l = both_lower frame formulas effects scratch a.effect_source e a.effect three in
         (omega (arith, l.0, ap (λ (r : Row). r.a) q), omega (arith, l.1, ap (λ (r : Row). r.b) q))
 
-    pub left-asks : Asks frame formulas effects notes t at before scratch w.a
-    left-asks = lower-asks a w.a effects-lower.0
+    pub left_asks : Asks frame formulas effects notes t at before scratch w.a
+    left_asks = lower_asks a w.a effects_lower.0
 
-    both-reads : condition_at frame formulas effects t e ≡ bind (condition_at frame formulas effects t w.a) (λ l. right_of l)
+    both_reads : condition_at frame formulas effects t e ≡ bind (condition_at frame formulas effects t w.a) (λ l. right_of l)
     unfolding pair
-    both-reads = rw (← (side_not t.negated), ap (λ (r : Row). r.a) q, ap (λ (r : Row). r.b) q) (of-both frame formulas effects scratch a.effect_source e a.effect t three)
+    both_reads = rw (← (side_not t.negated), ap (λ (r : Row). r.a) q, ap (λ (r : Row). r.b) q) (of_both frame formulas effects scratch a.effect_source e a.effect t three)
 
     -- the left effect's condition is built
     module _ {notes₁ : List ℕ} {mid : Store} {s1 : List ℕ} {l : Step}
         (x : Conditions (condition_at frame formulas effects t w.a) frame formulas effects notes₁ at before mid s1 l) where
-      pub left-full :
+      pub left_full :
           l.full ≡ true → Conditions (condition_at frame formulas effects t e) frame formulas effects notes₁ at before mid s1 l
-      left-full g =
-          conditions-as both-reads
+      left_full g =
+          conditions_as both_reads
           (conditions_stop (λ l. right_of l)
           (λ l. steady_bind (steady_condition_at frame formulas effects t w.b) (λ r. steady_join (side (not t.negated)) l r)) x g)
 
       module _ (g : l.full ≡ false) where
         pub right-asks : length s1 ≡ length scratch → Asks frame formulas effects notes₁ t (size_of l) mid s1 w.b
-        right-asks long = asks-next w.b a x g long (omega (arith, effects-lower.1, a.effect))
+        right-asks long = asks_next w.b a x g long (omega (arith, effects_lower.1, a.effect))
 
         -- and the right one's
         module _ {notes₂ : List ℕ} {after : Store} {s2 : List ℕ} {r : Step}
             (y : Conditions (condition_at frame formulas effects t w.b) frame formulas effects notes₂ (size_of l) mid after s2 r) where
-          pub right-full :
+          pub right_full :
               r.full ≡ true → Conditions (condition_at frame formulas effects t e) frame formulas effects notes₂ at before after s2 r
-          right-full k =
-              conditions-as both-reads
+          right_full k =
+              conditions_as both_reads
               (conditions_bind (λ l. right_of l) x g
               (conditions_stop (λ r. join_both l.row r) (λ r. steady_join (side (not t.negated)) l.row r) y k))
 
@@ -209,7 +209,7 @@ module _ {frame : Frame} {formulas effects notes : List ℕ} {t : Target} {at : 
                 {notes₃ : List ℕ} {last : Store} {s3 : List ℕ} {z : Step}
                 → Conditions (join_both l.row r.row) frame formulas effects notes₃ (size_of r) after last s3 z
                 → Conditions (condition_at frame formulas effects t e) frame formulas effects notes₃ at before last s3 z
-            on_both j = conditions-as both-reads (conditions_bind (λ l. right_of l) x g (conditions_bind (λ r. join_both l.row r) y k j))
+            on_both j = conditions_as both_reads (conditions_bind (λ l. right_of l) x g (conditions_bind (λ r. join_both l.row r) y k j))
 
             left-stands : l.row < r.rows
             left-stands = omega (arith, (x.builds.done g).below, (y.builds.done k).grew)
@@ -219,7 +219,7 @@ module _ {frame : Frame} {formulas effects notes : List ℕ} {t : Target} {at : 
                 → Conditions (condition_at frame formulas effects t e) frame formulas effects notes₂ at before after s2 r
             left_false h =
                 on_both
-                (conditions-as (rw (h, false_not t.negated) (join-with-left (side (not t.negated)) r.row))
+                (conditions_as (rw (h, false_not t.negated) (join_with_left (side (not t.negated)) r.row))
                 (answers_standing r.row y k k (y.builds.done k).below))
 
             pub right_false :
@@ -228,7 +228,7 @@ module _ {frame : Frame} {formulas effects notes : List ℕ} {t : Target} {at : 
                 (record { rows = r.rows; twins = r.twins; row = l.row; full = l.full })
             right_false h =
                 on_both
-                (conditions-as (rw (h, false_not t.negated) (join-with-right (side (not t.negated)) l.row))
+                (conditions_as (rw (h, false_not t.negated) (join_with_right (side (not t.negated)) l.row))
                 (answers_standing l.row y k g left-stands))
 
             pub both-join-asks : AsksJoin frame notes₂ e r.rows after.table l.row r.row
@@ -251,7 +251,7 @@ module _ {frame : Frame} {formulas effects notes : List ℕ} {t : Target} {at : 
                 let flag : t.negated ≡ false → eqb (row_at effects e).kind 3 ≡ not t.negated =
                 λ p. eq-eqb (row_at effects e).kind 3 three ∙ ap (λ b. not b) (sym p) in
                 on_both
-                (conditions-joined (record { ready = (y.builds.done k).ready; noted = y.noted k; flag = flag }) (y.memo k) (y.effect_memo k) j)
+                (conditions_joined (record { ready = (y.builds.done k).ready; noted = y.noted k; flag = flag }) (y.memo k) (y.effect_memo k) j)
 
 -- Row e is a formula over an effect, with the words w.
 module _ {frame : Frame} {formulas effects notes : List ℕ} {t : Target} {at : Size} {before : Store} {scratch : List ℕ} {e : ℕ}
@@ -260,16 +260,16 @@ module _ {frame : Frame} {formulas effects notes : List ℕ} {t : Target} {at : 
     abbrev over : ℕ → Build ℕ
     over c = guarded (becoming frame) (side t.negated) (tree frame formulas w.a) c
 
-    pub inner-lower : (w.a < frame.formulas) × (w.b < e)
-    inner-lower =
-        let l = under-lower frame formulas effects scratch a.effect_source e a.effect four in
+    pub inner_lower : (w.a < frame.formulas) × (w.b < e)
+    inner_lower =
+        let l = under_lower frame formulas effects scratch a.effect_source e a.effect four in
         (omega (arith, l.0, ap (λ (r : Row). r.a) q), omega (arith, l.1, ap (λ (r : Row). r.b) q))
 
-    pub inner-asks : Asks frame formulas effects notes t at before scratch w.b
-    inner-asks = lower-asks a w.b inner-lower.1
+    pub inner_asks : Asks frame formulas effects notes t at before scratch w.b
+    inner_asks = lower_asks a w.b inner_lower.1
 
-    under-reads : condition_at frame formulas effects t e ≡ bind (condition_at frame formulas effects t w.b) (λ c. over c)
-    under-reads = rw (ap (λ (r : Row). r.a) q, ap (λ (r : Row). r.b) q) (of-under frame formulas effects scratch a.effect_source e a.effect t four)
+    under_reads : condition_at frame formulas effects t e ≡ bind (condition_at frame formulas effects t w.b) (λ c. over c)
+    under_reads = rw (ap (λ (r : Row). r.a) q, ap (λ (r : Row). r.b) q) (of_under frame formulas effects scratch a.effect_source e a.effect t four)
 
     -- the inner effect's condition is built
     module _ {notes₁ : List ℕ} {mid : Store} {s1 : List ℕ} {s : Step}
@@ -277,8 +277,8 @@ module _ {frame : Frame} {formulas effects notes : List ℕ} {t : Target} {at : 
       pub inner-full :
           s.full ≡ true → Conditions (condition_at frame formulas effects t e) frame formulas effects notes₁ at before mid s1 s
       inner-full g =
-          conditions-as under-reads
-          (conditions_stop (λ c. over c) (λ c. steady-guarded (becoming frame) (steady_becoming frame) (side t.negated) (tree frame formulas w.a) c) x g)
+          conditions_as under_reads
+          (conditions_stop (λ c. over c) (λ c. steady_guarded (becoming frame) (steady_becoming frame) (side t.negated) (tree frame formulas w.a) c) x g)
 
       module _ (g : s.full ≡ false) where
         -- what is left gives the whole
@@ -286,7 +286,7 @@ module _ {frame : Frame} {formulas effects notes : List ℕ} {t : Target} {at : 
             {notes₂ : List ℕ} {last : Store} {s2 : List ℕ} {z : Step}
             → Conditions (over s.row) frame formulas effects notes₂ (size_of s) mid last s2 z
             → Conditions (condition_at frame formulas effects t e) frame formulas effects notes₂ at before last s2 z
-        on y = conditions-as under-reads (conditions_bind (λ c. over c) x g y)
+        on y = conditions_as under_reads (conditions_bind (λ c. over c) x g y)
 
         pub inner-false :
             s.row ≡ image_of_false (side t.negated)
@@ -294,13 +294,13 @@ module _ {frame : Frame} {formulas effects notes : List ℕ} {t : Target} {at : 
         unfolding guarded give
         inner-false h =
             on
-            (conditions-as (rw (eq-eqb s.row (image_of_false (side t.negated)) h))
+            (conditions_as (rw (eq-eqb s.row (image_of_false (side t.negated)) h))
             (answers_standing s.row x g g (x.builds.done g).below))
 
         pub image-asks : length s1 ≡ length scratch → AsksImage frame formulas (size_of s) mid s1 w.a
         image-asks long =
-            let n = asks-next e a x g long a.effect in
-            record { source = n.source; ready = n.ready; memo = n.memo; formula = inner-lower.0 }
+            let n = asks_next e a x g long a.effect in
+            record { source = n.source; ready = n.ready; memo = n.memo; formula = inner_lower.0 }
 
         -- it is not false, and the formula's image is built
         module _ (h : s.row ≡ image_of_false (side t.negated) → ⊥) {after : Store} {s2 : List ℕ} {f : Step}
@@ -316,7 +316,7 @@ module _ {frame : Frame} {formulas effects notes : List ℕ} {t : Target} {at : 
               f.full ≡ true → Conditions (condition_at frame formulas effects t e) frame formulas effects notes₁ at before after s2 f
           image-full k =
               on
-              (conditions-as joins
+              (conditions_as joins
               (conditions_stop (λ z. join (side t.negated) z s.row) (λ z. steady_join (side t.negated) z s.row) image k))
 
           module _ (k : f.full ≡ false) where
@@ -340,7 +340,7 @@ module _ {frame : Frame} {formulas effects notes : List ℕ} {t : Target} {at : 
                 let flag : t.negated ≡ false → eqb (row_at effects e).kind 3 ≡ t.negated =
                 λ p. ne_eqb (row_at effects e).kind 3 (λ z. omega (arith, z, four)) ∙ sym p in
                 on
-                (conditions-as joins
+                (conditions_as joins
                 (conditions_bind (λ z. join (side t.negated) z s.row) image k
-                (conditions-joined (record { ready = (y.builds.done k).ready; noted = image.noted k; flag = flag }) (image.memo k)
+                (conditions_joined (record { ready = (y.builds.done k).ready; noted = image.noted k; flag = flag }) (image.memo k)
                 (image.effect_memo k) j)))

@@ -11,14 +11,14 @@ use lib.Seq.{get_or-set_same, get_or-set_other}
 use lib.Dec.{eqb}
 use Rattle.task.specs.Bounded.{upto}
 use Rattle.task.specs.Table.{row_at}
-use Rattle.task.proofs.Bounded.{length-upto}
+use Rattle.task.proofs.Bounded.{length_upto}
 use Rattle.normal_form.specs.Builder.{St, Got, Build, join}
 use Rattle.normal_form.proofs.Growth.{steady_join}
 use Rattle.formula_builder.specs.declared.Frame.{Frame}
 use Rattle.formula_builder.specs.declared.Size.{Size}
 use Rattle.formula_builder.specs.declared.Step.{Step}
 use Rattle.formula_builder.specs.Inner.Held.{Store, store, held, size_of, sized, stepped, side, JoinReady, Ready, Builds}
-use Rattle.formula_builder.proofs.Steps.{builds-done}
+use Rattle.formula_builder.proofs.Steps.{builds_done}
 use Rattle.images.specs.Inner.Images.{Known, Memo}
 use Rattle.images.proofs.Memos.{memo_grows, done_grows, done_known}
 use Rattle.atom_sets.proofs.Places.{sets_behind}
@@ -53,18 +53,18 @@ abbrev pub with_join : List ℕ → ℕ → ℕ → ℕ → ℕ → List ℕ
 with_join notes k l r x = set (set (set notes k l) (k + 1) r) (k + 2) (x + 1)
 
 module _ (notes : List ℕ) (k l r x : ℕ) where
-  with-long : length (with_join notes k l r x) ≡ length notes
-  with-long =
+  with_long : length (with_join notes k l r x) ≡ length notes
+  with_long =
       length-set (set (set notes k l) (k + 1) r) (k + 2) (x + 1) ∙ length-set (set notes k l) (k + 1) r ∙ length-set notes k l
 
   -- other words stay
-  with-other :
+  with_other :
       (j : ℕ)
       → (j ≡ k → ⊥)
       → (j ≡ k + 1 → ⊥)
       → (j ≡ k + 2 → ⊥)
       → get_or (with_join notes k l r x) j 0 ≡ get_or notes j 0
-  with-other j a b c =
+  with_other j a b c =
       get_or-set_other (set (set notes k l) (k + 1) r) (k + 2) j (x + 1) 0 c
       ∙ get_or-set_other (set notes k l) (k + 1) j r 0 b
       ∙ get_or-set_other notes k j l 0 a
@@ -81,16 +81,16 @@ module _ (notes : List ℕ) (k l r x : ℕ) where
         get_or-set_other (set (set notes k l) (k + 1) r) (k + 2) (k + 1) (x + 1) 0 (λ q. omega (arith, q))
         ∙ get_or-set_same (set notes k l) (k + 1) r 0 (omega (arith, room, length-set notes k l))
 
-    with-third : get_or (with_join notes k l r x) (k + 2) 0 ≡ x + 1
-    with-third =
+    with_third : get_or (with_join notes k l r x) (k + 2) 0 ≡ x + 1
+    with_third =
         get_or-set_same (set (set notes k l) (k + 1) r) (k + 2) (x + 1) 0
         (omega (arith, room, length-set notes k l, length-set (set notes k l) (k + 1) r))
 
 -- The notes with a join for row e.
 module _ {frame : Frame} {notes : List ℕ} {e : ℕ} (a : Looks frame notes e) where
   -- its words stand before the sets
-  pub join-room : join_place frame e + 2 < length notes
-  join-room = omega (arith, a.words, a.effect, sets_behind frame)
+  pub join_room : join_place frame e + 2 < length notes
+  join_room = omega (arith, a.words, a.effect, sets_behind frame)
 
   module _ (l r x : ℕ) where
     abbrev after : List ℕ
@@ -98,15 +98,15 @@ module _ {frame : Frame} {notes : List ℕ} {e : ℕ} (a : Looks frame notes e) 
 
     low : (j : ℕ) → j < frame.effects → get_or after j 0 ≡ get_or notes j 0
     low j h =
-        with-other notes (join_place frame e) l r x j (λ q. omega (arith, q, h)) (λ q. omega (arith, q, h)) (λ q. omega (arith, q, h))
+        with_other notes (join_place frame e) l r x j (λ q. omega (arith, q, h)) (λ q. omega (arith, q, h)) (λ q. omega (arith, q, h))
 
     high : (j : ℕ) → 4 * frame.effects ≤ j → get_or after j 0 ≡ get_or notes j 0
     high j h =
-        with-other notes (join_place frame e) l r x j (λ q. omega (arith, q, h, a.effect)) (λ q. omega (arith, q, h, a.effect))
+        with_other notes (join_place frame e) l r x j (λ q. omega (arith, q, h, a.effect)) (λ q. omega (arith, q, h, a.effect))
         (λ q. omega (arith, q, h, a.effect))
 
     -- what is read of row d's join
-    joins-read :
+    joins_read :
         {effects : List ℕ} {s : St} (d y : ℕ)
         → d < frame.effects
         → Known (join_of effects e l r) s x
@@ -114,50 +114,50 @@ module _ {frame : Frame} {notes : List ℕ} {e : ℕ} (a : Looks frame notes e) 
         → get_or after (join_place frame d + 2) 0 ≡ y + 1
         → Dec (d ≡ e)
         → Known (join_of effects d (get_or after (join_place frame d) 0) (get_or after (join_place frame d + 1) 0)) s y
-    joins-read d y h now n w (no other) =
+    joins_read d y h now n w (no other) =
         let k = join_place frame d in
         let same : (j : ℕ) → k ≤ j → j < k + 3 → get_or after j 0 ≡ get_or notes j 0 =
         λ j f g.
-        with-other notes (join_place frame e) l r x j (λ q. other (omega (arith, q, f, g))) (λ q. other (omega (arith, q, f, g)))
+        with_other notes (join_place frame e) l r x j (λ q. other (omega (arith, q, f, g))) (λ q. other (omega (arith, q, f, g)))
         (λ q. other (omega (arith, q, f, g))) in
         rw (same k (omega arith) (omega arith), same (k + 1) (omega arith) (omega arith))
         (n.known d y h (sym (same (k + 2) (omega arith) (omega arith)) ∙ w))
-    joins-read d y h now n w (yes same) =
+    joins_read d y h now n w (yes same) =
         let there : get_or after (join_place frame d + 2) 0 ≡ x + 1 =
-        rw same (with-third notes (join_place frame e) l r x join-room) in
+        rw same (with_third notes (join_place frame e) l r x join_room) in
         let value : y ≡ x = omega (arith, there, w) in
-        rw (same, value, with_first notes (join_place frame e) l r x join-room, with_second notes (join_place frame e) l r x join-room) now
+        rw (same, value, with_first notes (join_place frame e) l r x join_room, with_second notes (join_place frame e) l r x join_room) now
 
-    join-noted :
+    join_noted :
         {formulas effects : List ℕ} {s : St}
         → Known (join_of effects e l r) s x
         → Noted frame formulas effects notes s
         → Noted frame formulas effects after s
-    join-noted now n =
-        let long = with-long notes (join_place frame e) l r x in
+    join_noted now n =
+        let long = with_long notes (join_place frame e) l r x in
         record {
           sets = sets_stay long (λ j g h. high j g) n.sets;
           columns = columns_stay long low n.columns;
           kept = kept_stay long low (λ j g. high j (omega (arith, sets_behind frame))) n.kept;
-          joins = record { known = λ d y h w. joins-read d y h now n.joins w (ℕ_discrete d e) };
+          joins = record { known = λ d y h w. joins_read d y h now n.joins w (ℕ_discrete d e) };
         }
 
-  pub keep-join-kept :
+  pub keep_join_kept :
       (t : Target) (l r x : ℕ) → t.negated ≡ false → KeepsJoin frame notes (with_join notes (join_place frame e) l r x) t e l r x
-  keep-join-kept t l r x p =
-      record { noted = λ formulas effects s now n. join-noted l r x (now p) n }
+  keep_join_kept t l r x p =
+      record { noted = λ formulas effects s now n. join_noted l r x (now p) n }
 
 -- What the join asks, and that its row fits a word.
 module _ {frame : Frame} {notes : List ℕ} {e stand : ℕ} {table : List ℕ} {l r : ℕ} (a : AsksJoin frame notes e stand table l r) where
-  pub join-ready : JoinReady frame.rows stand table l r
-  join-ready = record { rows = a.ready.rows; two = a.ready.two; left = a.left; right = a.right }
+  pub join_ready : JoinReady frame.rows stand table l r
+  join_ready = record { rows = a.ready.rows; two = a.ready.two; left = a.left; right = a.right }
 
-  pub join-small :
+  pub join_small :
       {m : Build ℕ} {table' : List ℕ} {stand' x : ℕ}
       → ((w : ℕ) (o : List ℕ) → Ready frame (sized stand w) (store table o) → Builds m frame (sized stand w) (store table o) (store table' o) (stepped stand' w x))
       → eqb x 65535 ≡ false
       → x < 4096
-  join-small b = small_row (b a.twins a.originals a.ready)
+  join_small b = small_row (b a.twins a.originals a.ready)
 
 -- a plain target joins as row e does
 join_flag :
@@ -166,17 +166,17 @@ join_flag effects e l r or q = rw q
 
 -- The join of rows l and r for row e.
 module _ {frame : Frame} {notes : List ℕ} {t : Target} {e : ℕ} {or : Bool} {at : Size} {l r : ℕ} {before : Store} where
-  pub joined-kept :
+  pub joined_kept :
       {w : ℕ} → Rejoins frame notes t e l r w → 0 < w → Joined frame notes notes t e or at l r before before (stepped at.rows at.twins (w - 1))
   unfolding held
-  joined-kept {w} k h =
+  joined_kept {w} k h =
       record {
         builds = λ formulas effects a.
             let known : Known (join (side or) l r) (held at before) (w - 1) =
             rw (join_flag effects e l r or (a.flag (k.plain h))) at (k.known formulas effects (held at before) a.noted h) in
             let b : w - 1 < length (upto at.rows (row_at before.table)) = known.below in
-            let low : w - 1 < at.rows = rw (length-upto at.rows (row_at before.table)) at b in
-            builds-done
+            let low : w - 1 < at.rows = rw (length_upto at.rows (row_at before.table)) at b in
+            builds_done
             (ne_eqb (w - 1) 65535 (λ q. omega (arith, low, a.ready.rows.within, a.ready.rows.limit)))
             (record {
               value = ap (λ (g : Got ℕ). g.value) known.again;
@@ -204,14 +204,14 @@ module _ {frame : Frame} {notes : List ℕ} {t : Target} {e : ℕ} {or : Bool} {
       }
 
   -- a step that leaves all but the last join
-  pub conditions-joined :
+  pub conditions_joined :
       {formulas effects notes' : List ℕ} {after : Store} {scratch : List ℕ} {x : Step}
       → JoinsAs frame formulas effects notes t e or at before
       → Memo frame formulas scratch (held at before)
       → EffectMemo frame formulas effects scratch (held at before)
       → Joined frame notes notes' t e or at l r before after x
       → Conditions (join (side or) l r) frame formulas effects notes' at before after scratch x
-  conditions-joined {formulas} {effects} a memo effect_memo j =
+  conditions_joined {formulas} {effects} a memo effect_memo j =
       let b = j.builds formulas effects a in
       let steady = steady_join (side or) l r in
       record {

@@ -12,14 +12,14 @@ use lib.ListN.{length, get_or, set, length-set}
 use lib.Seq.{get_or-set_same, get_or-set_other}
 use Rattle.task.specs.Bounded.{upto}
 use Rattle.task.specs.Table.{row_at}
-use Rattle.task.proofs.Bounded.{length-upto}
+use Rattle.task.proofs.Bounded.{length_upto}
 use Rattle.normal_form.specs.Builder.{St, Got, Build, bind}
 use Rattle.normal_form.specs.Growth.{Grows, Steady}
 use Rattle.formula_builder.specs.declared.Frame.{Frame}
 use Rattle.formula_builder.specs.declared.Size.{Size}
 use Rattle.formula_builder.specs.declared.Step.{Step}
 use Rattle.formula_builder.specs.Inner.Held.{Store, held, size_of, stepped, Ready, Builds}
-use Rattle.formula_builder.proofs.Steps.{builds-done, builds_as, builds-bind, builds_stop}
+use Rattle.formula_builder.proofs.Steps.{builds_done, builds_as, builds_bind, builds_stop}
 use Rattle.images.specs.Inner.Images.{Known, Memo, memo_place, Images}
 use Rattle.images.proofs.Memos.{known_grows, memo_grows, done_grows, done_known, place_within}
 use Rattle.conditions.specs.declared.Target.{Target}
@@ -77,14 +77,14 @@ module _ (frame : Frame) (scratch : List ℕ) (t : Target) (e row : ℕ) (h : e 
       get_or-set_same (set scratch (tag_place frame e) (tag t)) (effect_place frame e) (row + 1) 0
       (omega (arith, room, h, length-set scratch (tag_place frame e) (tag t)))
 
-  tag-there : get_or (with_row frame scratch t e row) (tag_place frame e) 0 ≡ tag t
-  tag-there =
+  tag_there : get_or (with_row frame scratch t e row) (tag_place frame e) 0 ≡ tag t
+  tag_there =
       get_or-set_other (set scratch (tag_place frame e) (tag t)) (effect_place frame e) (tag_place frame e) (row + 1) 0
       (λ q. omega (arith, q, h))
       ∙ get_or-set_same scratch (tag_place frame e) (tag t) 0 (omega (arith, room, h))
 
   -- what is read of target u and effect d
-  memo-read :
+  memo_read :
       {formulas effects : List ℕ} {s : St} (u : Target) (d x : ℕ)
       → d < frame.effects
       → Known (condition_at frame formulas effects t e) s row
@@ -93,12 +93,12 @@ module _ (frame : Frame) (scratch : List ℕ) (t : Target) (e row : ℕ) (h : e 
       → get_or (with_row frame scratch t e row) (effect_place frame d) 0 ≡ x + 1
       → Dec (d ≡ e)
       → Known (condition_at frame formulas effects u d) s x
-  memo-read u d x g now m q w (no other) =
+  memo_read u d x g now m q w (no other) =
       m.known u d x g
       (sym (row_other (tag_place frame d) (λ z. other (omega (arith, z))) (λ z. omega (arith, z, h))) ∙ q)
       (sym (row_other (effect_place frame d) (λ z. omega (arith, z, g)) (λ z. other (omega (arith, z)))) ∙ w)
-  memo-read {formulas} {effects} u d x g now m q w (yes same) =
-      let tags : get_or (with_row frame scratch t e row) (tag_place frame d) 0 ≡ tag t = rw same tag-there in
+  memo_read {formulas} {effects} u d x g now m q w (yes same) =
+      let tags : get_or (with_row frame scratch t e row) (tag_place frame d) 0 ≡ tag t = rw same tag_there in
       let there : get_or (with_row frame scratch t e row) (effect_place frame d) 0 ≡ row + 1 = rw same row_there in
       let value : x ≡ row = omega (arith, there, w) in
       let z = tags_apart u t (sym q ∙ tags) in
@@ -111,7 +111,7 @@ module _ (frame : Frame) (scratch : List ℕ) (t : Target) (e row : ℕ) (h : e 
         keeps_noted = k;
         images = λ j g. row_other j (λ q. omega (arith, q, g)) (λ q. omega (arith, q, g));
         effect_memo = λ formulas effects s now m.
-            record { known = λ u d x g q w. memo-read u d x g now m q w (ℕ_discrete d e) };
+            record { known = λ u d x g q w. memo_read u d x g now m q w (ℕ_discrete d e) };
       }
 
 -- the memo has it, if the tag is the target's
@@ -147,16 +147,16 @@ memo_kept {frame} {scratch = scratch} {scratch' = scratch'} same m =
     }
 
 module _ {m : Build ℕ} {frame : Frame} {formulas effects notes : List ℕ} {at : Size} {before after : Store} {s2 : List ℕ} {r : Step} where
-  pub conditions-as :
+  pub conditions_as :
       {m' : Build ℕ}
       → m ≡ m'
       → Conditions m' frame formulas effects notes at before after s2 r
       → Conditions m frame formulas effects notes at before after s2 r
-  conditions-as q x =
+  conditions_as q x =
       record { builds = builds_as q x.builds; noted = x.noted; memo = x.memo; effect_memo = x.effect_memo }
 
   -- the next step finds all that it asks
-  pub asks-next :
+  pub asks_next :
       {notes₀ s1 : List ℕ} {t : Target} {d : ℕ} (j : ℕ)
       → Asks frame formulas effects notes₀ t at before s1 d
       → Conditions m frame formulas effects notes at before after s2 r
@@ -164,7 +164,7 @@ module _ {m : Build ℕ} {frame : Frame} {formulas effects notes : List ℕ} {at
       → length s2 ≡ length s1
       → j < frame.effects
       → Asks frame formulas effects notes t (size_of r) after s2 j
-  asks-next j a x q long h =
+  asks_next j a x q long h =
       record {
         source =
             record {
@@ -229,7 +229,7 @@ pub conditions_bind :
     → Conditions (f l.row) frame formulas effects notes' (size_of l) mid after s3 r
     → Conditions (bind m f) frame formulas effects notes' at before after s3 r
 conditions_bind f x q y =
-    record { builds = builds-bind f x.builds q y.builds; noted = y.noted; memo = y.memo; effect_memo = y.effect_memo }
+    record { builds = builds_bind f x.builds q y.builds; noted = y.noted; memo = y.memo; effect_memo = y.effect_memo }
 
 pub conditions_stop :
     {m : Build ℕ} {frame : Frame} {formulas effects notes : List ℕ} {at : Size} {before after : Store} {s2 : List ℕ} {l : Step}
@@ -252,7 +252,7 @@ pub known_small :
 unfolding held
 known_small {at = at} {s} {r} ready k =
     let b : r < length (upto at.rows (row_at s.table)) = k.below in
-    let low : r < at.rows = rw (length-upto at.rows (row_at s.table)) at b in
+    let low : r < at.rows = rw (length_upto at.rows (row_at s.table)) at b in
     (low, ne_eqb r 65535 (λ q. omega (arith, low, ready.rows.within, ready.rows.limit)))
 
 -- The row of effect e's condition is known.
@@ -266,7 +266,7 @@ conditions_known a k =
     let small = known_small a.ready k in
     record {
       builds =
-          builds-done small.1
+          builds_done small.1
           (record {
             value = ap (λ (g : Got ℕ). g.value) k.again;
             state = ap (λ (g : Got ℕ). g.st) k.again;

@@ -15,7 +15,7 @@ use Rattle.task.specs.Table.{row_at}
 use Rattle.normal_form.specs.Builder.{St, Build}
 use Rattle.normal_form.specs.Growth.{Grows, Steady}
 use Rattle.normal_form.proofs.Growth.{steady_join}
-use Rattle.normal_form.proofs.Steady.{steady-condition}
+use Rattle.normal_form.proofs.Steady.{steady_condition}
 use Rattle.formula_builder.specs.declared.Frame.{Frame}
 use Rattle.formula_builder.specs.declared.Size.{Size}
 use Rattle.formula_builder.specs.declared.Step.{Step}
@@ -31,7 +31,7 @@ pub steady_condition_at :
     (frame : Frame) (formulas effects : List ℕ) (t : Target) (e : ℕ) → Steady (condition_at frame formulas effects t e)
 unfolding condition_at
 steady_condition_at frame formulas effects t e =
-    steady-condition (becoming frame) (steady_becoming frame) (side t.negated) (atom_of t) (effect_tree frame formulas effects e)
+    steady_condition (becoming frame) (steady_becoming frame) (side t.negated) (atom_of t) (effect_tree frame formulas effects e)
 
 pub noted_grows :
     {frame : Frame} {formulas effects notes : List ℕ} {s s' : St}
@@ -310,9 +310,9 @@ module _ {frame : Frame} {notes : List ℕ} {t : Target} {e k : ℕ} (h : e < fr
   earlier : (x j : ℕ) → j < sets_end frame → get_or (set notes k x) j 0 ≡ get_or notes j 0
   earlier x j g = get_or-set_other notes k j x 0 (λ q. omega (arith, beyond, q, g))
 
-  same-column : (x d : ℕ) → d < frame.effects → column (set notes k x) d ≡ column notes d
+  same_column : (x d : ℕ) → d < frame.effects → column (set notes k x) d ≡ column notes d
   unfolding column
-  same-column x d g = earlier x d (omega (arith, sets_behind frame))
+  same_column x d g = earlier x d (omega (arith, sets_behind frame))
 
   module _ (formulas effects : List ℕ) (s : St) (r : ℕ) (now : Known (condition_at frame formulas effects t e) s r)
       (n : Noted frame formulas effects notes s) where
@@ -338,23 +338,23 @@ module _ {frame : Frame} {notes : List ℕ} {t : Target} {e k : ℕ} (h : e < fr
         let value : x ≡ r = omega (arith, there, w) in
         rw (same_condition frame formulas effects u t d e z.3 z.1 z.2 row, value) now
 
-    kept-noted : Noted frame formulas effects (set notes k (r + 1)) s
-    kept-noted =
+    kept_noted : Noted frame formulas effects (set notes k (r + 1)) s
+    kept_noted =
         record {
           sets = sets_stay (length-set notes k (r + 1)) (λ j g h. earlier (r + 1) j h) n.sets;
           columns = columns_stay (length-set notes k (r + 1)) (λ d g. earlier (r + 1) d (omega (arith, sets_behind frame))) n.columns;
           kept =
               record {
                 known = λ u d x g v m c i w.
-                    let same = same-column (r + 1) d g in
+                    let same = same_column (r + 1) d g in
                     read_back u d x g v m (rw same at c) (rw (same, length-set notes k (r + 1)) at i) (ℕ_discrete (kept_place frame (column notes d) u) k)
                     (rw same at w);
               };
           joins = joins_stay (λ j g h. earlier (r + 1) j (omega (arith, sets_behind frame))) n.joins;
         }
 
-  pub recall-kept : RecallsNoted frame notes t e (get_or notes k 0)
-  recall-kept =
+  pub recall_kept : RecallsNoted frame notes t e (get_or notes k 0)
+  recall_kept =
       record {
         known = λ formulas effects s n w.
             n.kept.known t e (get_or notes k 0 - 1) h p.variable p.one p.has_column
@@ -362,13 +362,13 @@ module _ {frame : Frame} {notes : List ℕ} {t : Target} {e k : ℕ} (h : e < fr
             (ap (λ j. get_or notes j 0) (sym p.place) ∙ omega (arith, w));
       }
 
-  pub keep-kept : (row : ℕ) → KeepsNoted frame notes (set notes k (row + 1)) t e row
-  keep-kept row = record { noted = λ formulas effects s now n. kept-noted formulas effects s row now n }
+  pub keep_kept : (row : ℕ) → KeepsNoted frame notes (set notes k (row + 1)) t e row
+  keep_kept row = record { noted = λ formulas effects s now n. kept_noted formulas effects s row now n }
 
 -- The notes have no word for it.
 module _ (frame : Frame) (notes : List ℕ) (t : Target) (e : ℕ) where
-  pub recall-unkept : RecallsNoted frame notes t e 0
-  recall-unkept = record { known = λ formulas effects s n w. absurd (omega (arith, w)) }
+  pub recall_unkept : RecallsNoted frame notes t e 0
+  recall_unkept = record { known = λ formulas effects s n w. absurd (omega (arith, w)) }
 
-  pub keep-unkept : (row : ℕ) → KeepsNoted frame notes notes t e row
-  keep-unkept row = record { noted = λ formulas effects s now n. n }
+  pub keep_unkept : (row : ℕ) → KeepsNoted frame notes notes t e row
+  keep_unkept row = record { noted = λ formulas effects s now n. n }

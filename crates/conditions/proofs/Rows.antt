@@ -10,14 +10,14 @@ use Rattle.task.specs.Table.{row_at, effect_kind}
 use Rattle.task.specs.Rules.{no_row, EffectRule}
 use Rattle.task.specs.Semantics.{Formula, Atom, Effect}
 use Rattle.task.specs.Tree.{effect_node}
-use Rattle.task.proofs.Bounded.{length-upto, getD-upto}
-use Rattle.task.proofs.Trees.{effect-unfolds}
+use Rattle.task.proofs.Bounded.{length_upto, getD_upto}
+use Rattle.task.proofs.Trees.{effect_unfolds}
 use Rattle.task.specs.Inner.Rows.{EffectKept}
 use Rattle.normal_form.specs.Builder.{Build, give, bind, join, pair, Polarity, plain, negated, opposite, image_of_false, image_of_true}
 use Rattle.normal_form.specs.Conditions.{Becoming, guarded, condition}
 use Rattle.formula_builder.specs.declared.Frame.{Frame}
 use Rattle.formula_builder.specs.Inner.Held.{side}
-use Rattle.formula_builder.proofs.Steps.{join-left-false, join-right-false, join-left-true, join-right-true}
+use Rattle.formula_builder.proofs.Steps.{join_left_false, join_right_false, join_left_true, join_right_true}
 use Rattle.images.specs.Inner.Images.{source_rows, tree, becoming}
 use Rattle.conditions.specs.declared.Target.{Target}
 use Rattle.conditions.specs.Inner.Conditions.{atom_of, acts, atom_row, effect_rows, effect_tree, condition_at, EffectSource}
@@ -28,49 +28,49 @@ true_apart negated e = omega (arith, e)
 
 -- true and x, x and true are x; negated, false or x, x or false
 module _ (p : Polarity) (x : ℕ) where
-  pub join-with-left : join p (image_of_true p) x ≡ give x
-  join-with-left = go (ℕ_discrete x (image_of_false p))
+  pub join_with_left : join p (image_of_true p) x ≡ give x
+  join_with_left = go (ℕ_discrete x (image_of_false p))
     where
       go : Dec (x ≡ image_of_false p) → join p (image_of_true p) x ≡ give x
-      go (yes e) = join-right-false p (image_of_true p) x (true_apart p) e ∙ ap (λ (y : ℕ). give y) (sym e)
-      go (no n) = join-left-true p (image_of_true p) x (true_apart p) n refl
+      go (yes e) = join_right_false p (image_of_true p) x (true_apart p) e ∙ ap (λ (y : ℕ). give y) (sym e)
+      go (no n) = join_left_true p (image_of_true p) x (true_apart p) n refl
 
-  pub join-with-right : join p x (image_of_true p) ≡ give x
-  join-with-right = go (ℕ_discrete x (image_of_false p)) (ℕ_discrete x (image_of_true p))
+  pub join_with_right : join p x (image_of_true p) ≡ give x
+  join_with_right = go (ℕ_discrete x (image_of_false p)) (ℕ_discrete x (image_of_true p))
     where
       go : Dec (x ≡ image_of_false p) → Dec (x ≡ image_of_true p) → join p x (image_of_true p) ≡ give x
-      go (yes e) d = join-left-false p x (image_of_true p) e ∙ ap (λ (y : ℕ). give y) (sym e)
-      go (no n) (yes e) = join-left-true p x (image_of_true p) n (true_apart p) e ∙ ap (λ (y : ℕ). give y) (sym e)
-      go (no n) (no k) = join-right-true p x (image_of_true p) n (true_apart p) k refl
+      go (yes e) d = join_left_false p x (image_of_true p) e ∙ ap (λ (y : ℕ). give y) (sym e)
+      go (no n) (yes e) = join_left_true p x (image_of_true p) n (true_apart p) e ∙ ap (λ (y : ℕ). give y) (sym e)
+      go (no n) (no k) = join_right_true p x (image_of_true p) n (true_apart p) k refl
 
 -- The condition of a row by its kind, over the formula f and the effects d and g that its words name.
 module _ (becomes : Becoming) (p : Polarity) (l : Atom) (a : ℕ) (f : Formula) (d g : Effect) where
-  atom-condition :
+  atom_condition :
       (k : ℕ)
       → (k ≡ 3 → ⊥)
       → (k ≡ 4 → ⊥)
       → condition becomes p l (effect_node (effect_kind k) a f d g) ≡ give (cond (acts l (effect_kind k) a) (image_of_true p) (image_of_false p))
   unfolding condition effect_node effect_kind acts
-  atom-condition zero h i = refl
-  atom-condition (suc zero) h i = refl
-  atom-condition (suc (suc zero)) h i = refl
-  atom-condition (suc (suc (suc zero))) h i = absurd (h refl)
-  atom-condition (suc (suc (suc (suc zero)))) h i = absurd (i refl)
-  atom-condition (suc (suc (suc (suc (suc k))))) h i = refl
+  atom_condition zero h i = refl
+  atom_condition (suc zero) h i = refl
+  atom_condition (suc (suc zero)) h i = refl
+  atom_condition (suc (suc (suc zero))) h i = absurd (h refl)
+  atom_condition (suc (suc (suc (suc zero)))) h i = absurd (i refl)
+  atom_condition (suc (suc (suc (suc (suc k))))) h i = refl
 
-  both-condition :
+  both_condition :
       (k : ℕ)
       → k ≡ 3
       → condition becomes p l (effect_node (effect_kind k) a f d g) ≡ pair (opposite p) (condition becomes p l d) (condition becomes p l g)
   unfolding condition effect_node effect_kind
-  both-condition k e = rw e
+  both_condition k e = rw e
 
-  under-condition :
+  under_condition :
       (k : ℕ)
       → k ≡ 4
       → condition becomes p l (effect_node (effect_kind k) a f d g) ≡ bind (condition becomes p l g) (λ c. guarded becomes p f c)
   unfolding condition effect_node effect_kind
-  under-condition k e = rw e
+  under_condition k e = rw e
 
 -- there is no kind above 4
 kind_most : (v f i k a b : ℕ) → EffectRule v f i (effect_kind k) a b → k ≤ 4
@@ -83,37 +83,37 @@ kind_most v f i (suc (suc (suc (suc zero)))) a b r = omega arith
 kind_most v f i (suc (suc (suc (suc (suc k))))) a b r = absurd r
 
 module _ (frame : Frame) (formulas effects scratch : List ℕ) (source : EffectSource frame effects scratch) (e : ℕ) (h : e < frame.effects) where
-  row-held : get_or (effect_rows frame effects) e no_row ≡ row_at effects e
+  row_held : get_or (effect_rows frame effects) e no_row ≡ row_at effects e
   unfolding effect_rows
-  row-held = getD-upto frame.effects (row_at effects) e no_row h
+  row_held = getD_upto frame.effects (row_at effects) e no_row h
 
   within : e < length (effect_rows frame effects)
   unfolding effect_rows
-  within = rw (length-upto frame.effects (row_at effects)) h
+  within = rw (length_upto frame.effects (row_at effects)) h
 
-  rule-held : EffectKept frame.variables frame.formulas e (row_at effects e)
-  rule-held = rw row-held at (source.down.row e within)
+  rule_held : EffectKept frame.variables frame.formulas e (row_at effects e)
+  rule_held = rw row_held at (source.down.row e within)
 
-  pub both-lower : (row_at effects e).kind ≡ 3 → ((row_at effects e).a < e) × ((row_at effects e).b < e)
+  pub both_lower : (row_at effects e).kind ≡ 3 → ((row_at effects e).a < e) × ((row_at effects e).b < e)
   unfolding effect_kind
-  both-lower k =
+  both_lower k =
       let r : EffectRule frame.variables frame.formulas e (effect_kind 3) (row_at effects e).a (row_at effects e).b =
-      rw k at rule-held in
+      rw k at rule_held in
       r
 
-  pub under-lower : (row_at effects e).kind ≡ 4 → ((row_at effects e).a < frame.formulas) × ((row_at effects e).b < e)
+  pub under_lower : (row_at effects e).kind ≡ 4 → ((row_at effects e).a < frame.formulas) × ((row_at effects e).b < e)
   unfolding effect_kind
-  under-lower k =
+  under_lower k =
       let r : EffectRule frame.variables frame.formulas e (effect_kind 4) (row_at effects e).a (row_at effects e).b =
-      rw k at rule-held in
+      rw k at rule_held in
       r
 
   -- a row that names effects is both, or under a formula
-  pub under-else : 3 ≤ (row_at effects e).kind → ((row_at effects e).kind ≡ 3 → ⊥) → (row_at effects e).kind ≡ 4
-  under-else c other =
+  pub under_else : 3 ≤ (row_at effects e).kind → ((row_at effects e).kind ≡ 3 → ⊥) → (row_at effects e).kind ≡ 4
+  under_else c other =
       let m =
       kind_most frame.variables frame.formulas e (row_at effects e).kind (row_at effects e).a (row_at effects e).b
-      rule-held in
+      rule_held in
       omega (arith, c, m, other)
 
   -- one that is neither is an atom, or empty
@@ -121,7 +121,7 @@ module _ (frame : Frame) (formulas effects scratch : List ℕ) (source : EffectS
   known_kind four =
       let m =
       kind_most frame.variables frame.formulas e (row_at effects e).kind (row_at effects e).a (row_at effects e).b
-      rule-held in
+      rule_held in
       omega (arith, m, four)
 
   module _ (t : Target) where
@@ -135,29 +135,29 @@ module _ (frame : Frame) (formulas effects scratch : List ℕ) (source : EffectS
     unfolding condition_at effect_tree tree node
     unfolds =
         ap (condition (becoming frame) (side t.negated) (atom_of t))
-        (effect-unfolds frame.variables frame.formulas (source_rows frame formulas) (effect_rows frame effects)
+        (effect_unfolds frame.variables frame.formulas (source_rows frame formulas) (effect_rows frame effects)
         source.down e within
-        ∙ rw row-held)
+        ∙ rw row_held)
 
-    pub of-atom :
+    pub of_atom :
         ((row_at effects e).kind ≡ 3 → ⊥)
         → ((row_at effects e).kind ≡ 4 → ⊥)
         → condition_at frame formulas effects t e ≡ give (atom_row t (row_at effects e))
     unfolding node atom_row
-    of-atom i j = unfolds ∙ atom-condition (becoming frame) _ _ _ _ _ _ (row_at effects e).kind i j
+    of_atom i j = unfolds ∙ atom_condition (becoming frame) _ _ _ _ _ _ (row_at effects e).kind i j
 
-    pub of-both :
+    pub of_both :
         (row_at effects e).kind ≡ 3
         → condition_at frame formulas effects t e
         ≡ pair (opposite (side t.negated)) (condition_at frame formulas effects t (row_at effects e).a)
         (condition_at frame formulas effects t (row_at effects e).b)
     unfolding node condition_at
-    of-both k = unfolds ∙ both-condition (becoming frame) _ _ _ _ _ _ (row_at effects e).kind k
+    of_both k = unfolds ∙ both_condition (becoming frame) _ _ _ _ _ _ (row_at effects e).kind k
 
-    pub of-under :
+    pub of_under :
         (row_at effects e).kind ≡ 4
         → condition_at frame formulas effects t e
         ≡ bind (condition_at frame formulas effects t (row_at effects e).b)
         (λ c. guarded (becoming frame) (side t.negated) (tree frame formulas (row_at effects e).a) c)
     unfolding node condition_at
-    of-under k = unfolds ∙ under-condition (becoming frame) _ _ _ _ _ _ (row_at effects e).kind k
+    of_under k = unfolds ∙ under_condition (becoming frame) _ _ _ _ _ _ (row_at effects e).kind k

@@ -11,8 +11,8 @@ use Rattle.normal_form.specs.Growth.{Grows, Steady}
 use Rattle.normal_form.specs.Conditions.{condition}
 use Rattle.normal_form.specs.Operators.{changes_of}
 use Rattle.normal_form.proofs.Growth.{steady_bind, steady_each}
-use Rattle.normal_form.proofs.Steady.{steady-guarded, steady-changes}
-use Rattle.normal_form.proofs.Adds.{AddsNothing, nothing-first, nothing-next, nothing_left, nothing_right, nothing_each, nothing-sets, nothing-clears}
+use Rattle.normal_form.proofs.Steady.{steady_guarded, steady_changes}
+use Rattle.normal_form.proofs.Adds.{AddsNothing, nothing_first, nothing_next, nothing_left, nothing_right, nothing_each, nothing_sets, nothing_clears}
 use Rattle.formula_builder.specs.declared.Frame.{Frame}
 use Rattle.formula_builder.specs.declared.Size.{Size}
 use Rattle.formula_builder.specs.Inner.Held.{Store, held, side}
@@ -20,7 +20,7 @@ use Rattle.images.specs.Inner.Images.{tree, becoming}
 use Rattle.images.proofs.Memos.{steady_becoming}
 use Rattle.conditions.specs.declared.Target.{Target}
 use Rattle.conditions.specs.Inner.Conditions.{atom_by, effect_tree, condition_at}
-use Rattle.conditions.proofs.Rows.{of-both, of-under}
+use Rattle.conditions.proofs.Rows.{of_both, of_under}
 use Rattle.conditions.proofs.Notes.{steady_condition_at}
 use Rattle.effect_batches.specs.Inner.Firsts.{Rows, Names, left, right, inner, Below, here, named, First}
 use Rattle.effect_batches.specs.declared.Batch.{Batch}
@@ -31,50 +31,50 @@ use Rattle.effect_batches.proofs.Firsts.{memo, source, row_kept}
 
 -- A row that a covered row names is covered.
 module _ {frame : Frame} {effects : List ℕ} (rows : Rows frame effects) (formulas : List ℕ) {s : St} where
-  below-it :
+  below_it :
       (i : ℕ)
       → i < frame.effects
       → (t : Target) (e : ℕ)
       → Names effects i e
       → AddsNothing (condition_at frame formulas effects t i) s
       → AddsNothing (condition_at frame formulas effects t e) s
-  below-it i h t e (left k q) z =
-      let both = of-both frame formulas effects (memo frame) (source frame effects rows) i h t k in
+  below_it i h t e (left k q) z =
+      let both = of_both frame formulas effects (memo frame) (source frame effects rows) i h t k in
       rw (← q)
       (nothing_left (opposite (side t.negated)) (steady_condition_at frame formulas effects t (row_at effects i).a)
       (steady_condition_at frame formulas effects t (row_at effects i).b) (rw both at z))
-  below-it i h t e (right k q) z =
-      let both = of-both frame formulas effects (memo frame) (source frame effects rows) i h t k in
+  below_it i h t e (right k q) z =
+      let both = of_both frame formulas effects (memo frame) (source frame effects rows) i h t k in
       rw (← q)
       (nothing_right (opposite (side t.negated)) (steady_condition_at frame formulas effects t (row_at effects i).a)
       (steady_condition_at frame formulas effects t (row_at effects i).b) (rw both at z))
-  below-it i h t e (inner k q) z =
-      let under = of-under frame formulas effects (memo frame) (source frame effects rows) i h t k in
+  below_it i h t e (inner k q) z =
+      let under = of_under frame formulas effects (memo frame) (source frame effects rows) i h t k in
       rw (← q)
-      (nothing-first (steady_condition_at frame formulas effects t (row_at effects i).b)
-      (λ c. steady-guarded (becoming frame) (steady_becoming frame) (side t.negated) (tree frame formulas (row_at effects i).a) c) (rw under at z))
+      (nothing_first (steady_condition_at frame formulas effects t (row_at effects i).b)
+      (λ c. steady_guarded (becoming frame) (steady_becoming frame) (side t.negated) (tree frame formulas (row_at effects i).a) c) (rw under at z))
 
-  pub covered-below :
+  pub covered_below :
       {top e : ℕ} → Below effects top e → Covered frame formulas effects s top → Covered frame formulas effects s e
-  covered-below (here e q) c = rw q c
-  covered-below (named i e n b) c =
-      let above = covered-below b c in
+  covered_below (here e q) c = rw q c
+  covered_below (named i e n b) c =
+      let above = covered_below b c in
       record {
         effect = omega (arith, (row_kept rows i above.effect).lower e n, above.effect);
-        again = λ t p v. below-it i above.effect t e n (above.again t p v);
+        again = λ t p v. below_it i above.effect t e n (above.again t p v);
       }
 
   -- and so is a row whose word names an operator that is built
-  pub covered-before :
+  pub covered_before :
       {operators first : List ℕ} {count from : ℕ} (e : ℕ)
       → First effects operators count first
       → AllCovered frame formulas effects operators from s
       → Before frame.effects first from e
       → Covered frame formulas effects s e
-  covered-before {operators} {first} {count} {from} e f k b =
+  covered_before {operators} {first} {count} {from} e f k b =
       let o = get_or first e 0 - 1 in
       let word : get_or first e 0 ≡ o + 1 = omega (arith, b.some) in
-      covered-below ((f.comes e).below o word).1 (k.covered o (omega (arith, b.some, b.earlier)))
+      covered_below ((f.comes e).below o word).1 (k.covered o (omega (arith, b.some, b.earlier)))
 
 -- Row e is covered once the changes of all variables were built for it.
 pub covered_changes :
@@ -90,8 +90,8 @@ covered_changes frame formulas effects s e h q =
         (clear : Bool) (v : ℕ)
         → v < frame.variables
         → AddsNothing (condition (becoming frame) plain (atom_by clear v) (effect_tree frame formulas effects e)) s
-    go false v g = nothing-sets (becoming frame) (steady_becoming frame) frame.variables (effect_tree frame formulas effects e) q g
-    go true v g = nothing-clears (becoming frame) (steady_becoming frame) frame.variables (effect_tree frame formulas effects e) q g
+    go false v g = nothing_sets (becoming frame) (steady_becoming frame) frame.variables (effect_tree frame formulas effects e) q g
+    go true v g = nothing_clears (becoming frame) (steady_becoming frame) frame.variables (effect_tree frame formulas effects e) q g
 
 -- The effects of the first n operators are covered once these were built, each behind a step of its own: its precondition.
 pub covered_built :
@@ -110,7 +110,7 @@ covered_built frame formulas effects operators n m s u steady roots g =
     record {
       covered = λ k h.
           covered_changes frame formulas effects u (operator_at operators k).effect (roots k h)
-          (nothing-next (steady k) (λ p. all k)
+          (nothing_next (steady k) (λ p. all k)
           (nothing_each n (λ j. steady_bind (steady j) (λ p. all j)) s h g));
     }
   where
@@ -118,7 +118,7 @@ covered_built frame formulas effects operators n m s u steady roots g =
         (k : ℕ)
         → Steady (each frame.variables (changes_of (becoming frame) (effect_tree frame formulas effects (operator_at operators k).effect)))
     all k =
-        steady_each frame.variables (steady-changes (becoming frame) (steady_becoming frame) (effect_tree frame formulas effects (operator_at operators k).effect))
+        steady_each frame.variables (steady_changes (becoming frame) (steady_becoming frame) (effect_tree frame formulas effects (operator_at operators k).effect))
 
 -- The rows that a batch lists as it begins may be filled.
 pub batch_fills :
@@ -139,5 +139,5 @@ batch_fills {formulas = formulas} {list = list} {at = at} {s = s} a x =
           };
       room = x.listed.room;
       covered = λ j h.
-          covered-before a.sizes.room.rows formulas (get_or list j 0) a.comes a.covered (x.listed.each j h);
+          covered_before a.sizes.room.rows formulas (get_or list j 0) a.comes a.covered (x.listed.each j h);
     }

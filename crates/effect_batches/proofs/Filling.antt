@@ -7,7 +7,7 @@ use mathlib.Core.List.{List}
 use lib.ListN.{length, get_or}
 use lib.Seq.{length-take-le}
 use Rattle.task.specs.Table.{row_at}
-use Rattle.task.proofs.Bounded.{length-upto}
+use Rattle.task.proofs.Bounded.{length_upto}
 use Rattle.normal_form.specs.Builder.{St}
 use Rattle.formula_builder.specs.declared.Frame.{Frame}
 use Rattle.formula_builder.specs.declared.Size.{Size}
@@ -22,15 +22,15 @@ use Rattle.effect_batches.specs.Inner.Filling.{Stands, FillsRow, Fills, FillsAto
 module _ {frame : Frame} {at : Size} {s : Store} (r : Ready frame at s) where
   held_rows : length (held at s).rows ≡ at.rows
   unfolding held
-  held_rows = length-upto at.rows (row_at s.table)
+  held_rows = length_upto at.rows (row_at s.table)
 
-  held-twins : length (held at s).twins ≡ at.twins
+  held_twins : length (held at s).twins ≡ at.twins
   unfolding held
-  held-twins = length-take-le at.twins s.originals (omega (arith, r.twins, r.originals))
+  held_twins = length-take-le at.twins s.originals (omega (arith, r.twins, r.originals))
 
-  held-within : Within frame (held at s)
-  held-within =
-      record { rows = omega (arith, held_rows, r.rows.within); twins = omega (arith, held-twins, r.twins) }
+  held_within : Within frame (held at s)
+  held_within =
+      record { rows = omega (arith, held_rows, r.rows.within); twins = omega (arith, held_twins, r.twins) }
 
 made : ℕ → ℕ → Size
 made n w = record { rows = n; twins = w }
@@ -41,13 +41,13 @@ same_size :
 unfolding made
 same_size x y q =
     ap₂ made (sym (held_rows x) ∙ ap (λ (z : St). length z.rows) q ∙ held_rows y)
-    (sym (held-twins x) ∙ ap (λ (z : St). length z.twins) q ∙ held-twins y)
+    (sym (held_twins x) ∙ ap (λ (z : St). length z.twins) q ∙ held_twins y)
 
 -- what a condition asks, and the test of a set
 module _ {frame : Frame} {formulas effects notes : List ℕ} {t : Target} {at : Size} {s : Store} {scratch : List ℕ} {e : ℕ}
     (a : FillsRow frame formulas effects notes t at s scratch e) where
-  pub row-asks : Asks frame formulas effects notes t at s scratch e
-  row-asks =
+  pub row_asks : Asks frame formulas effects notes t at s scratch e
+  row_asks =
       record {
         source = a.stands.source;
         effect_source = a.stands.effect_source;
@@ -59,8 +59,8 @@ module _ {frame : Frame} {formulas effects notes : List ℕ} {t : Target} {at : 
         effect = a.covered.effect;
       }
 
-  pub row-in-set : InSet frame t.variable e
-  row-in-set =
+  pub row_in_set : InSet frame t.variable e
+  row_in_set =
       record {
         variables = omega (arith, a.stands.ready.variables);
         limit = a.stands.effect_source.limit;
@@ -79,7 +79,7 @@ module _ {frame : Frame} {formulas effects notes : List ℕ} {t : Target} {at : 
       where
         go : (b : Bool) → r.full ≡ b → r.full ≡ false
         go false q = q
-        go true q = absurd (x.builds.over q (rw same (held-within a.stands.ready)))
+        go true q = absurd (x.builds.over q (rw same (held_within a.stands.ready)))
 
     kept : held (size_of r) after ≡ held at s
     kept = sym (x.builds.done done).state ∙ same
@@ -87,8 +87,8 @@ module _ {frame : Frame} {formulas effects notes : List ℕ} {t : Target} {at : 
     sizes : size_of r ≡ at
     sizes = same_size (x.builds.done done).ready a.stands.ready kept
 
-    pub row-filled : Filled frame formulas effects notes' at s after scratch'
-    row-filled =
+    pub row_filled : Filled frame formulas effects notes' at s after scratch'
+    row_filled =
         record {
           state = rw sizes at kept;
           stands =

@@ -12,7 +12,7 @@ use Rattle.formula_builder.specs.declared.Words.{Words}
 use Rattle.formula_builder.specs.declared.Frame.{Frame}
 use Rattle.formula_builder.specs.Inner.Held.{row_of}
 use Rattle.conditions.specs.Inner.Conditions.{EffectSource}
-use Rattle.conditions.proofs.Rows.{both-lower, under-lower, known_kind}
+use Rattle.conditions.proofs.Rows.{both_lower, under_lower, known_kind}
 use Rattle.effect_batches.specs.Inner.Firsts.{Rows, Names, left, right, inner, RowKept, here, named, Comes, First, Meets}
 
 -- The rows keep the rules, whatever memo there is.
@@ -43,24 +43,24 @@ row_kept {frame} {effects} a i h =
     go (no k) = omega (arith, known_kind frame [] effects (memo frame) (source frame effects a) i h k)
 
     less : (e : ℕ) → Names effects i e → e < i
-    less e (left k q) = omega (arith, (both-lower frame [] effects (memo frame) (source frame effects a) i h k).0, q)
-    less e (right k q) = omega (arith, (both-lower frame [] effects (memo frame) (source frame effects a) i h k).1, q)
-    less e (inner k q) = omega (arith, (under-lower frame [] effects (memo frame) (source frame effects a) i h k).1, q)
+    less e (left k q) = omega (arith, (both_lower frame [] effects (memo frame) (source frame effects a) i h k).0, q)
+    less e (right k q) = omega (arith, (both_lower frame [] effects (memo frame) (source frame effects a) i h k).1, q)
+    less e (inner k q) = omega (arith, (under_lower frame [] effects (memo frame) (source frame effects a) i h k).1, q)
 
 -- The rows that row i names, by its words w.
 module _ {effects : List ℕ} {i : ℕ} (a : RowKept effects i) (w : Words) (q : row_of w ≡ row_at effects i) where
   same_kind : (row_at effects i).kind ≡ w.kind
   same_kind = ap (λ (r : Row). r.kind) (sym q)
 
-  pub names-right : 3 ≤ w.kind → Names effects i w.b
-  names-right some = go (ℕ_discrete (row_at effects i).kind 3)
+  pub names_right : 3 ≤ w.kind → Names effects i w.b
+  names_right some = go (ℕ_discrete (row_at effects i).kind 3)
     where
       go : Dec ((row_at effects i).kind ≡ 3) → Names effects i w.b
       go (yes k) = right k (ap (λ (r : Row). r.b) (sym q))
       go (no k) = inner (omega (arith, a.known, some, same_kind, k)) (ap (λ (r : Row). r.b) (sym q))
 
-  pub names-left : 3 ≤ w.kind → (w.kind ≡ 4 → ⊥) → Names effects i w.a
-  names-left some other = left (omega (arith, a.known, some, other, same_kind)) (ap (λ (r : Row). r.a) (sym q))
+  pub names_left : 3 ≤ w.kind → (w.kind ≡ 4 → ⊥) → Names effects i w.a
+  names_left some other = left (omega (arith, a.known, some, other, same_kind)) (ap (λ (r : Row). r.a) (sym q))
 
 -- The word of row e is w now, or as it was.
 pub meets_new : (first : List ℕ) (e w : ℕ) → e < length first → Meets first (set first e w) e w

@@ -204,8 +204,8 @@ module _ (frame : Frame) {a b c : List ℕ} {last : ℕ} (first : length b ≡ l
   unfolding column
   given e h = y.ahead e (omega (arith, h, sets_behind frame))
 
-  pub noted-anew : {effects : List ℕ} (formulas : List ℕ) (s : St) → Noted frame formulas effects a s → Noted frame formulas effects c s
-  noted-anew formulas s n =
+  pub noted_anew : {effects : List ℕ} (formulas : List ℕ) (s : St) → Noted frame formulas effects a s → Noted frame formulas effects c s
+  noted_anew formulas s n =
       record {
         sets = sets_stay long (λ j g h. low j (omega (arith, g)) h) n.sets;
         columns =

@@ -9,8 +9,8 @@ use Rattle.task.specs.Table.{Lent, Task, task_of}
 use Rattle.task.specs.Check.{counts_kept, refusal, room as has_room}
 use Rattle.task.specs.Words.{head_of}
 use Rattle.task.proofs.Bounded.{and_left}
-use Rattle.task.proofs.Held.{length-originals}
-use Rattle.task.proofs.Kept.{kept-rules}
+use Rattle.task.proofs.Held.{length_originals}
+use Rattle.task.proofs.Kept.{kept_rules}
 use Rattle.task.proofs.Passed.{passed, counts_tested}
 use Rattle.normal_form.specs.Finished.{finished}
 use Rattle.normal_form.specs.Compiled.{Room, compile_scratch_kept, output_lengths, fits, compile_refusal, compiled_head, not_compiled, nothing_given, task_given, outcome_by, compiling}
@@ -29,21 +29,21 @@ limits_alone t = go (counts_kept (head_of t)) refl
 
 module _ (l : Lent) (kept : refusal l ≡ 0) where
   -- 14 never: scratch is as long as the limits ask for
-  own-scratch : compile_scratch_kept l.head own_room ≡ true
+  own_scratch : compile_scratch_kept l.head own_room ≡ true
   unfolding compile_scratch_kept own_room
-  own-scratch =
+  own_scratch =
       let c = (counts_tested l.head).0 (passed l kept).counts in
       le-leb (2 * l.head.formulas + 2 * l.head.effects) 16384 (omega (arith, c.formulas, c.effects))
 
-  pub own-number : compile_refusal l own_room ≡ compile_number (task_of l)
+  pub own_number : compile_refusal l own_room ≡ compile_number (task_of l)
   unfolding compile_refusal compile_number
-  own-number =
-      rw (kept, length-originals l (kept-rules l kept).0, own-scratch, limits_alone (finished (task_of l)))
+  own_number =
+      rw (kept, length_originals l (kept_rules l kept).0, own_scratch, limits_alone (finished (task_of l)))
 
   -- any other room that has scratch enough comes to 15 or to the same: what fits it keeps the limits
-  pub same-refusal : (room : Room) → compile_scratch_kept l.head room ≡ true → (compile_refusal l room ≡ 15 → ⊥) → compile_refusal l room ≡ compile_number (task_of l)
+  pub same_refusal : (room : Room) → compile_scratch_kept l.head room ≡ true → (compile_refusal l room ≡ 15 → ⊥) → compile_refusal l room ≡ compile_number (task_of l)
   unfolding compile_refusal
-  same-refusal room enough d = go (eqb l.head.twins 0) (fits source room) refl refl ∙ own-number
+  same_refusal room enough d = go (eqb l.head.twins 0) (fits source room) refl refl ∙ own_number
     where
       source : Task
       source = finished (task_of l)
@@ -55,7 +55,7 @@ module _ (l : Lent) (kept : refusal l ≡ 0) where
           let limits : counts_kept (head_of source) ≡ true =
           unfold fits in and_left (counts_kept (head_of source)) (has_room (output_lengths room) (head_of source)) y
           in
-          rw (kept, x, enough, y, own-scratch, limits_alone source, limits)
+          rw (kept, x, enough, y, own_scratch, limits_alone source, limits)
 
 -- the number in the answer is the refusal's, 0 with a task alone
 module _ (t : Task) (room : Room) where
@@ -63,12 +63,12 @@ module _ (t : Task) (room : Room) where
   number_by zero = unfold outcome_by task_given in refl
   number_by (suc n) = unfold outcome_by nothing_given in refl
 
-  pub never-zero : (n : ℕ) → (outcome_by n t room).answer ≡ not_compiled 0 → ⊥
-  never-zero zero e =
+  pub never_zero : (n : ℕ) → (outcome_by n t room).answer ≡ not_compiled 0 → ⊥
+  never_zero zero e =
       let g : compiled_head (head_of t) ≡ not_compiled 0 = unfold outcome_by task_given in e in
       let z : ◌≡◌ {A = ℕ} 0 1 = cc in
       omega arith
-  never-zero (suc n) e =
+  never_zero (suc n) e =
       let g : not_compiled (suc n) ≡ not_compiled 0 = unfold outcome_by nothing_given in e in
       let z : suc n ≡ 0 = cc in
       omega (arith, z)
@@ -81,4 +81,4 @@ module _ (l : Lent) (room : Room) where
 
   pub not_zero : (compiling l room).answer ≡ not_compiled 0 → ⊥
   unfolding compiling
-  not_zero = never-zero (finished (task_of l)) room (compile_refusal l room)
+  not_zero = never_zero (finished (task_of l)) room (compile_refusal l room)

@@ -11,7 +11,7 @@ use Rattle.task.specs.Table.{Lent, Task, lent, task_of, operator_width}
 use Rattle.task.specs.Check.{counts_kept, goal_kept, refusal}
 use Rattle.task.specs.Words.{head_of, words_of, operator_words, padded}
 use Rattle.task.proofs.Bounded.{and_both}
-use Rattle.task.proofs.Words.{lent_in, task-in, kept_in}
+use Rattle.task.proofs.Words.{lent_in, task_in, kept_in}
 use Rattle.task.proofs.Passed.{counts_tested}
 use Rattle.task_file.specs.declared.ReadAnswer.{ReadAnswer}
 use Rattle.task_file.specs.declared.ReadAnswer.TheVariants.{Read, Refused}
@@ -67,7 +67,7 @@ pub record ReadAs (m : Lengths) (file : List ℕ) (l : Lent) : Type 0 where
 
 held_in : (m : Lengths) (file : List ℕ) (l : Lent) (t : Task) (i w f e o : List ℕ) → l ≡ lent_in t i w f e o → Accepted m file t → reading m file ≡ accepted t → ReadAs m file l
 held_in m file l t i w f e o s a r =
-    let same : task_of l ≡ t = ap task_of s ∙ task-in t i w f e o in
+    let same : task_of l ≡ t = ap task_of s ∙ task_in t i w f e o in
     record {
       read = r ∙ ap accepted (sym same);
       kept = ap refusal s ∙ kept_in t i w f e o a.rules;
@@ -81,9 +81,9 @@ held_in m file l t i w f e o s a r =
 
 -- the two answers of reading through tables of any lengths
 module _ (m : Lengths) (file : List ℕ) {r : ReadAnswer} {i' w' f' e' o' : List ℕ} (reads : read_left r i' w' f' e' o' ≡ read_outcome m file) where
-  reads-by : read_left r i' w' f' e' o' ≡ outcome_of m (reading m file)
+  reads_by : read_left r i' w' f' e' o' ≡ outcome_of m (reading m file)
   unfolding read_outcome
-  reads-by = reads
+  reads_by = reads
 
   pub read_as : {head : Head} → r ≡ Read head → Bytes file → ReadAs m file (lent head i' w' f' e' o')
   unfolding outcome_of padded lent_in
@@ -91,7 +91,7 @@ module _ (m : Lengths) (file : List ℕ) {r : ReadAnswer} {i' w' f' e' o' : List
     where
       go : (x : Verdict) → reading m file ≡ x → ReadAs m file (lent head i' w' f' e' o')
       go (accepted t) x =
-          let s : read_left r i' w' f' e' o' ≡ outcome_of m (accepted t) = reads-by ∙ ap (outcome_of m) x in
+          let s : read_left r i' w' f' e' o' ≡ outcome_of m (accepted t) = reads_by ∙ ap (outcome_of m) x in
           let h : Read head ≡ Read (head_of t) = sym q ∙ ap (λ (y : ReadOutcome). y.answer) s in
           let g : head ≡ head_of t = cc in
           held_in m file (lent head i' w' f' e' o') t
@@ -103,7 +103,7 @@ module _ (m : Lengths) (file : List ℕ) {r : ReadAnswer} {i' w' f' e' o' : List
           (λ j. lent (g j) (s j).initial (s j).twins (s j).formulas (s j).effects (s j).operators)
           (written_read m file t b x) x
       go (rejected n) x =
-          let s : read_left r i' w' f' e' o' ≡ outcome_of m (rejected n) = reads-by ∙ ap (outcome_of m) x in
+          let s : read_left r i' w' f' e' o' ≡ outcome_of m (rejected n) = reads_by ∙ ap (outcome_of m) x in
           let h : Read head ≡ Refused n = sym q ∙ ap (λ (y : ReadOutcome). y.answer) s in
           absurd (let z : ◌≡◌ {A = ℕ} 0 1 = cc in omega arith)
 
@@ -113,11 +113,11 @@ module _ (m : Lengths) (file : List ℕ) {r : ReadAnswer} {i' w' f' e' o' : List
     where
       go : (x : Verdict) → reading m file ≡ x → reading m file ≡ rejected n
       go (accepted t) x =
-          let s : read_left r i' w' f' e' o' ≡ outcome_of m (accepted t) = reads-by ∙ ap (outcome_of m) x in
+          let s : read_left r i' w' f' e' o' ≡ outcome_of m (accepted t) = reads_by ∙ ap (outcome_of m) x in
           let h : Refused n ≡ Read (head_of t) = sym q ∙ ap (λ (y : ReadOutcome). y.answer) s in
           absurd (let z : ◌≡◌ {A = ℕ} 0 1 = cc in omega arith)
       go (rejected k) x =
-          let s : read_left r i' w' f' e' o' ≡ outcome_of m (rejected k) = reads-by ∙ ap (outcome_of m) x in
+          let s : read_left r i' w' f' e' o' ≡ outcome_of m (rejected k) = reads_by ∙ ap (outcome_of m) x in
           let h : Refused n ≡ Refused k = sym q ∙ ap (λ (y : ReadOutcome). y.answer) s in
           let g : k ≡ n = cc in
           x ∙ ap rejected g

@@ -13,10 +13,10 @@ use Rattle.task.specs.Table.{FormulaKind, row_at, formula_kind}
 use Rattle.task.specs.Rules.{no_row, FormulaRule}
 use Rattle.task.specs.Semantics.{holds}
 use Rattle.task.specs.Tree.{formula_of}
-use Rattle.task.proofs.Bounded.{length-upto, getD-upto}
-use Rattle.task.proofs.Trees.{formula-grows}
+use Rattle.task.proofs.Bounded.{length_upto, getD_upto}
+use Rattle.task.proofs.Trees.{formula_grows}
 use Rattle.task.specs.Inner.Rows.{FormulasDown}
-use Rattle.task.proofs.Values.{bit_small, values-stored}
+use Rattle.task.proofs.Values.{bit_small, values_stored}
 use Rattle.task.specs.Inner.Values.{bit, told, kind_value, row_value, Values}
 use Rattle.evaluating.specs.Inner.Values.{joins, truth_table, rows_of, RowReady, Valuable, Valued}
 
@@ -101,45 +101,45 @@ module _ {words : List ℕ} {i : ℕ} {s values : List ℕ} (ready : RowReady wo
   unfolding bit row_value kind_value formula_kind
   true_row k = rw k
 
-  pub variable-ref : (row_at words i).kind ≡ 2 → (row_at words i).a < length s
+  pub variable_ref : (row_at words i).kind ≡ 2 → (row_at words i).a < length s
   unfolding formula_kind
-  variable-ref k = let r : FormulaRule (length s) i (formula_kind 2) (row_at words i).a (row_at words i).b = rw k at ready.rule in r.0
+  variable_ref k = let r : FormulaRule (length s) i (formula_kind 2) (row_at words i).a (row_at words i).b = rw k at ready.rule in r.0
 
   pub variable_row :
       (row_at words i).kind ≡ 2 → get_or s (row_at words i).a 0 ≡ bit (row_value s values (row_at words i))
   unfolding row_value kind_value formula_kind
   variable_row k =
       rw k
-      (bit_told (get_or s (row_at words i).a 0) (ready.state_bits (row_at words i).a (variable-ref k)))
+      (bit_told (get_or s (row_at words i).a 0) (ready.state_bits (row_at words i).a (variable_ref k)))
 
-  pub not-ref : (row_at words i).kind ≡ 3 → (row_at words i).a < i
+  pub not_ref : (row_at words i).kind ≡ 3 → (row_at words i).a < i
   unfolding formula_kind
-  not-ref k = let r : FormulaRule (length s) i (formula_kind 3) (row_at words i).a (row_at words i).b = rw k at ready.rule in r.0
+  not_ref k = let r : FormulaRule (length s) i (formula_kind 3) (row_at words i).a (row_at words i).b = rw k at ready.rule in r.0
 
-  pub not-row :
+  pub not_row :
       (row_at words i).kind ≡ 3 → 1 - get_or values (row_at words i).a 0 ≡ bit (row_value s values (row_at words i))
   unfolding row_value kind_value formula_kind
-  not-row k =
-      rw k (bit_not (get_or values (row_at words i).a 0) (ready.value_bits (row_at words i).a (not-ref k)))
+  not_row k =
+      rw k (bit_not (get_or values (row_at words i).a 0) (ready.value_bits (row_at words i).a (not_ref k)))
 
   module _
       (d0 : (row_at words i).kind ≡ 0 → ⊥)
       (d1 : (row_at words i).kind ≡ 1 → ⊥)
       (d2 : (row_at words i).kind ≡ 2 → ⊥)
       (d3 : (row_at words i).kind ≡ 3 → ⊥) where
-    pub join-refs :
+    pub join_refs :
         (4 ≤ (row_at words i).kind) × ((row_at words i).kind < 8) × ((row_at words i).a < i) × ((row_at words i).b < i)
-    join-refs =
+    join_refs =
         rule_joins (length s) i (row_at words i).kind (row_at words i).a (row_at words i).b ready.rule d0 d1 d2 d3
 
-    pub join-row :
+    pub join_row :
         bit (joins (formula_kind (row_at words i).kind) (told values (row_at words i).a) (told values (row_at words i).b))
         ≡ bit (row_value s values (row_at words i))
     unfolding row_value
-    join-row =
+    join_row =
         ap bit
         (sym
-        (join_value s values (row_at words i).kind (row_at words i).a (row_at words i).b join-refs.0 join-refs.1))
+        (join_value s values (row_at words i).kind (row_at words i).a (row_at words i).b join_refs.0 join_refs.1))
 
 -- what the loop has done before row i
 pub record Evaluating (words : List ℕ) (n : ℕ) (s before : List ℕ) (i : ℕ) (t : List ℕ) : Type 0 where
@@ -154,42 +154,42 @@ module _ {words : List ℕ} {from n : ℕ} {s scratch : List ℕ} (able : Valuab
       record {
         row =
             λ i h.
-            let l : i < m = rw (length-upto m (row_at words)) at h in
-            rw (getD-upto m (row_at words) i no_row l) (able.rule i (omega arith));
+            let l : i < m = rw (length_upto m (row_at words)) at h in
+            rw (getD_upto m (row_at words) i no_row l) (able.rule i (omega arith));
       }
 
   -- rows behind do not change a row's formula
-  same-formula :
+  same_formula :
       (m d j : ℕ) → m + d ≤ n → j < m → formula_of (rows_of (m + d) words) j ≡ formula_of (rows_of m words) j
   unfolding upto
-  same-formula m zero j h l = rw (add-zero m)
-  same-formula m (suc d) j h l =
+  same_formula m zero j h l = rw (add-zero m)
+  same_formula m (suc d) j h l =
       rw (add-suc m d)
-      (formula-grows (length s) (rows_of (m + d) words) (down (m + d) (omega arith)) (row_at words (m + d) ∷ []) j
-      (rw (length-upto (m + d) (row_at words)) (omega arith))
-      ∙ same-formula m d j (omega arith) l)
+      (formula_grows (length s) (rows_of (m + d) words) (down (m + d) (omega arith)) (row_at words (m + d) ∷ []) j
+      (rw (length_upto (m + d) (row_at words)) (omega arith))
+      ∙ same_formula m d j (omega arith) l)
 
-  pub same-holds :
+  pub same_holds :
       (m j : ℕ)
       → m ≤ n
       → j < m
       → holds s (formula_of (rows_of m words) j) ≡ holds s (formula_of (rows_of n words) j)
-  same-holds m j b l =
+  same_holds m j b l =
       let e : m + (n - m) ≡ n = omega arith in
       ap (holds s)
-      (sym (same-formula m (n - m) j (omega arith) l) ∙ ap (λ (k : ℕ). formula_of (rows_of k words) j) e)
+      (sym (same_formula m (n - m) j (omega arith) l) ∙ ap (λ (k : ℕ). formula_of (rows_of k words) j) e)
 
-  pub same-values :
+  pub same_values :
       (m : ℕ) (t : List ℕ) → m ≤ n → Values s (rows_of m words) m t → Values s (rows_of n words) m t
-  same-values m t b v = record { at = λ j l. v.at j l ∙ ap bit (same-holds m j b l) }
+  same_values m t b v = record { at = λ j l. v.at j l ∙ ap bit (same_holds m j b l) }
 
   -- the loop over the rows from .. n - 1
   pub begin : Evaluating words n s scratch from scratch
   begin = record { inside = able.order; same = refl; known = able.below; behind = refl }
 
   module _ {i : ℕ} {t : List ℕ} (h : i < n) (so_far : Evaluating words n s scratch i t) where
-    pub row-ready : RowReady words i s t
-    row-ready =
+    pub row_ready : RowReady words i s t
+    row_ready =
         record {
           there = omega (arith, able.there);
           rule = able.rule i h;
@@ -205,9 +205,9 @@ module _ {words : List ℕ} {from n : ℕ} {s scratch : List ℕ} (able : Valuab
           inside = omega arith;
           same = length-set t i x ∙ so_far.same;
           known =
-              rw (e, ← getD-upto n (row_at words) i no_row h)
-              (values-stored (length s) (rows_of n words) (down n (omega arith)) s i t
-              (rw (length-upto n (row_at words)) h) (omega (arith, able.room, so_far.same)) so_far.known);
+              rw (e, ← getD_upto n (row_at words) i no_row h)
+              (values_stored (length s) (rows_of n words) (down n (omega arith)) s i t
+              (rw (length_upto n (row_at words)) h) (omega (arith, able.room, so_far.same)) so_far.known);
           behind =
               drop-set-lt (i + 1) t i x (omega arith)
               ∙ sym (drop-drop 1 i t)

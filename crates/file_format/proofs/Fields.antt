@@ -11,12 +11,12 @@ use lib.Dec.{eqb}
 use borrow.Author.Tests.{eq-eqb, ne_eqb}
 use Rattle.file_format.specs.Bytes.{word_bytes, field_bytes, present, fields_bytes, map_of}
 use Rattle.file_format.specs.Parse.{Parsed, parsed, next, kept, byte_read, word_read, field_read, fields_read}
-use Rattle.file_format.proofs.Parse.{Bytes, bytes_behind, parsed-value, parsed-rest, refused-parsed, kept-parsed, kept-true, next-parsed, next-to, Stable, pure-stable, kept-stable, byte_stable, next-stable}
+use Rattle.file_format.proofs.Parse.{Bytes, bytes_behind, parsed_value, parsed_rest, refused_parsed, kept_parsed, kept_true, next_parsed, next_to, Stable, pure_stable, kept_stable, byte_stable, next_stable}
 
 -- a byte that was read stands in front of what is left
 pub byte_parsed : (bytes : List ℕ) {x : ℕ} {rest : List ℕ} → byte_read bytes ≡ parsed x rest → bytes ≡ x ∷ rest
 unfolding byte_read
-byte_parsed [] e = absurd (refused-parsed e)
+byte_parsed [] e = absurd (refused_parsed e)
 byte_parsed (y ∷ bytes) e = cc
 
 pub byte_reads : (x : ℕ) (rest : List ℕ) → byte_read (x ∷ rest) ≡ parsed x rest
@@ -37,21 +37,21 @@ word_reads w rest = ap {B = Parsed ℕ} (λ (z : ℕ). parsed z rest) (omega ari
 
 pub word_parsed : (bytes : List ℕ) {w : ℕ} {rest : List ℕ} → Bytes bytes → word_read bytes ≡ parsed w rest → Written word_bytes Word bytes w rest
 unfolding word_read word_bytes next byte_read
-word_parsed [] b e = absurd (refused-parsed e)
-word_parsed (x ∷ []) b e = absurd (refused-parsed e)
+word_parsed [] b e = absurd (refused_parsed e)
+word_parsed (x ∷ []) b e = absurd (refused_parsed e)
 word_parsed (x ∷ (y ∷ bytes)) {w} {rest} b e =
-    let v : x + 256 * y ≡ w = parsed-value e in
+    let v : x + 256 * y ≡ w = parsed_value e in
     let l : x < 256 = b.0 in
     let h : y < 256 = b.1.0 in
     let p : x ≡ w % 256 = omega arith in
     let q : y ≡ w / 256 = omega arith in
-    record { same = rw (parsed-rest e, ← p, ← q); good = omega arith }
+    record { same = rw (parsed_rest e, ← p, ← q); good = omega arith }
 
 pub word_stable : Stable word_read
 unfolding word_read
 word_stable =
-    next-stable byte_read (λ low rest. next (byte_read rest) (λ high. parsed (low + 256 * high))) byte_stable
-    (λ low. next-stable byte_read (λ high. parsed (low + 256 * high)) byte_stable (λ high. pure-stable (low + 256 * high)))
+    next_stable byte_read (λ low rest. next (byte_read rest) (λ high. parsed (low + 256 * high))) byte_stable
+    (λ low. next_stable byte_read (λ high. parsed (low + 256 * high)) byte_stable (λ high. pure_stable (low + 256 * high)))
 
 pub present_le : (default w : ℕ) → present default w ≤ 1
 unfolding present
@@ -91,7 +91,7 @@ field_reads default w rest = go (ℕ_discrete w default)
         let t = there default w ne in
         let passes : not (eqb w default) ≡ true = ap not (ne_eqb w default ne) in
         rw (t.bit, t.bytes)
-        (next-to (λ w. kept (not (eqb w default)) 3 w) (word_reads w rest) ∙ kept-true (not (eqb w default)) 3 w rest passes)
+        (next_to (λ w. kept (not (eqb w default)) 3 w) (word_reads w rest) ∙ kept_true (not (eqb w default)) 3 w rest passes)
 
 pub record Field (default bit : ℕ) (bytes : List ℕ) (w : ℕ) (rest : List ℕ) : Type 0 where
   pub same : bytes ≡ field_bytes default w ++ rest
@@ -107,12 +107,12 @@ pub field_parsed :
     → Field default bit bytes w rest
 unfolding field_read
 field_parsed default zero bytes {w} {rest} small h b e =
-    let z : default ≡ w = parsed-value e in
+    let z : default ≡ w = parsed_value e in
     let a = absent default w (sym z) in
-    record { same = parsed-rest e ∙ sym (ap (λ (l : List ℕ). l ++ rest) a.bytes); good = omega arith; by_bit = a.bit }
+    record { same = parsed_rest e ∙ sym (ap (λ (l : List ℕ). l ++ rest) a.bytes); good = omega arith; by_bit = a.bit }
 field_parsed default (suc bit) bytes {w} {rest} small h b e =
-    let s = next-parsed (word_read bytes) (λ w. kept (not (eqb w default)) 3 w) e in
-    let k = kept-parsed (not (eqb s.value default)) 3 s.value s.mid s.second in
+    let s = next_parsed (word_read bytes) (λ w. kept (not (eqb w default)) 3 w) e in
+    let k = kept_parsed (not (eqb s.value default)) 3 s.value s.mid s.second in
     let d = word_parsed bytes b s.first in
     let v : s.value ≡ w = k.same in
     let r : s.mid ≡ rest = k.behind in
@@ -128,9 +128,9 @@ field_parsed default (suc bit) bytes {w} {rest} small h b e =
 
 pub field_stable : (default bit : ℕ) → Stable (field_read default bit)
 unfolding field_read
-field_stable default zero = pure-stable default
+field_stable default zero = pure_stable default
 field_stable default (suc bit) =
-    next-stable word_read (λ w. kept (not (eqb w default)) 3 w) word_stable (λ w. kept-stable (not (eqb w default)) 3 w)
+    next_stable word_read (λ w. kept (not (eqb w default)) 3 w) word_stable (λ w. kept_stable (not (eqb w default)) 3 w)
 
 -- each is a word
 abbrev pub Words : List ℕ → Type 0
@@ -190,8 +190,8 @@ fields_reads [] (w ∷ ws) m rest size h = absurd (omega arith)
 fields_reads (d ∷ ds) [] m rest size h = absurd (omega arith)
 fields_reads (d ∷ ds) (w ∷ ws) m rest size h =
     rw (append_assoc (field_bytes d w) (fields_bytes ds ws) rest, h.0)
-    (next-to (λ w rest. next (fields_read ds (m / 2) rest) (λ ws. parsed (w ∷ ws))) (field_reads d w (fields_bytes ds ws ++ rest))
-    ∙ next-to (λ ws. parsed (w ∷ ws)) (fields_reads ds ws (m / 2) rest (omega arith) h.1))
+    (next_to (λ w rest. next (fields_read ds (m / 2) rest) (λ ws. parsed (w ∷ ws))) (field_reads d w (fields_bytes ds ws ++ rest))
+    ∙ next_to (λ ws. parsed (w ∷ ws)) (fields_reads ds ws (m / 2) rest (omega arith) h.1))
 
 pub record Fields (ds : List ℕ) (m : ℕ) (bytes ws rest : List ℕ) : Type 0 where
   pub same : bytes ≡ fields_bytes ds ws ++ rest
@@ -211,16 +211,16 @@ pub fields_parsed :
     → Fields ds m bytes ws rest
 unfolding fields_read fields_bytes
 fields_parsed [] m bytes {ws} {rest} small b e =
-    let z : [] ≡ ws = parsed-value e in
-    fields_same {m = m} z (parsed-rest e) (record { same = refl; size = refl; good = tt; by_map = tt })
+    let z : [] ≡ ws = parsed_value e in
+    fields_same {m = m} z (parsed_rest e) (record { same = refl; size = refl; good = tt; by_map = tt })
 fields_parsed (d ∷ ds) m bytes {ws} {rest} small b e =
-    let s = next-parsed (field_read d (m % 2) bytes) (λ w rest. next (fields_read ds (m / 2) rest) (λ ws. parsed (w ∷ ws))) e in
+    let s = next_parsed (field_read d (m % 2) bytes) (λ w rest. next (fields_read ds (m / 2) rest) (λ ws. parsed (w ∷ ws))) e in
     let f = field_parsed d (m % 2) bytes small.0 (omega arith) b s.first in
-    let t = next-parsed (fields_read ds (m / 2) s.mid) (λ ws. parsed (s.value ∷ ws)) s.second in
+    let t = next_parsed (fields_read ds (m / 2) s.mid) (λ ws. parsed (s.value ∷ ws)) s.second in
     let below : Bytes s.mid = bytes_behind (field_bytes d s.value) s.mid (rw f.same at b) in
     let g = fields_parsed ds (m / 2) s.mid small.1 below t.first in
-    let v : s.value ∷ t.value ≡ ws = parsed-value t.second in
-    let r : t.mid ≡ rest = parsed-rest t.second in
+    let v : s.value ∷ t.value ≡ ws = parsed_value t.second in
+    let r : t.mid ≡ rest = parsed_rest t.second in
     fields_same v r
     (record {
       same =
@@ -234,10 +234,10 @@ fields_parsed (d ∷ ds) m bytes {ws} {rest} small b e =
 
 pub fields_stable : (ds : List ℕ) (m : ℕ) → Stable (fields_read ds m)
 unfolding fields_read
-fields_stable [] m = pure-stable []
+fields_stable [] m = pure_stable []
 fields_stable (d ∷ ds) m =
-    next-stable (field_read d (m % 2)) (λ w rest. next (fields_read ds (m / 2) rest) (λ ws. parsed (w ∷ ws))) (field_stable d (m % 2))
-    (λ w. next-stable (fields_read ds (m / 2)) (λ ws. parsed (w ∷ ws)) (fields_stable ds (m / 2)) (λ ws. pure-stable (w ∷ ws)))
+    next_stable (field_read d (m % 2)) (λ w rest. next (fields_read ds (m / 2) rest) (λ ws. parsed (w ∷ ws))) (field_stable d (m % 2))
+    (λ w. next_stable (fields_read ds (m / 2)) (λ ws. parsed (w ∷ ws)) (fields_stable ds (m / 2)) (λ ws. pure_stable (w ∷ ws)))
 
 -- fields behind fields
 pub fields_append :

@@ -13,7 +13,7 @@ use lib.Pow.{pow_pos, mod-pow-add, shr-shr}
 use lib.Dec.{eqb}
 use borrow.Author.Tests.{eqb-true, eqb-false, eq-eqb, ne_eqb}
 use Rattle.task.specs.Bounded.{upto}
-use Rattle.task.proofs.Bounded.{length-upto, getD-upto}
+use Rattle.task.proofs.Bounded.{length_upto, getD_upto}
 use Rattle.file_format.specs.Bytes.{number, bytes_for, packed}
 use Rattle.file_format.specs.Reading.{bit_of, spare_clear}
 use Rattle.file_format.proofs.Parse.{Bytes}
@@ -67,7 +67,7 @@ unfolding number upto
 number_of_bits zero x = omega arith
 number_of_bits (suc n) x =
     number_more (upto n (λ k. x / 2 ^ k % 2)) (x / 2 ^ n % 2)
-    ∙ rw (length-upto n (λ k. x / 2 ^ k % 2), number_of_bits n x, ← (add-one n))
+    ∙ rw (length_upto n (λ k. x / 2 ^ k % 2), number_of_bits n x, ← (add-one n))
     (last ∙ ap (λ (m : ℕ). x % 2 ^ m) (omega arith))
   where
     last : x % 2 ^ n + 2 ^ n * (x / 2 ^ n % 2) ≡ x % 2 ^ (1 + n)
@@ -85,9 +85,9 @@ bits_upto : (n : ℕ) (f : ℕ → ℕ) → ((k : ℕ) → f k ≤ 1) → Bits (
 bits_upto n f h k = go (dec_lt k n)
   where
     go : Dec (k < n) → get_or (upto n f) k 0 ≤ 1
-    go (yes l) = rw (getD-upto n f k 0 l) (h k)
+    go (yes l) = rw (getD_upto n f k 0 l) (h k)
     go (no m) =
-        let e : length (upto n f) ≤ k = omega (arith, length-upto n f) in
+        let e : length (upto n f) ≤ k = omega (arith, length_upto n f) in
         rw (get_or-eq_default (upto n f) 0 e) (omega arith)
 
 -- bits of a state, also past its end
@@ -106,11 +106,11 @@ byte_number state j = number (upto 8 (λ k. get_or state (8 * j + k) 0))
 
 pub packed_length : (state : List ℕ) → length (packed state) ≡ bytes_for (length state)
 unfolding packed
-packed_length state = length-upto (bytes_for (length state)) (λ j. number (upto 8 (λ k. get_or state (8 * j + k) 0)))
+packed_length state = length_upto (bytes_for (length state)) (λ j. number (upto 8 (λ k. get_or state (8 * j + k) 0)))
 
 packed_at : (state : List ℕ) (j : ℕ) → j < bytes_for (length state) → get_or (packed state) j 0 ≡ byte_number state j
 unfolding packed byte_number
-packed_at state j h = getD-upto (bytes_for (length state)) (λ j. number (upto 8 (λ k. get_or state (8 * j + k) 0))) j 0 h
+packed_at state j h = getD_upto (bytes_for (length state)) (λ j. number (upto 8 (λ k. get_or state (8 * j + k) 0))) j 0 h
 
 packed_bit : (state : List ℕ) → Bits state → (v : ℕ) → v < length state → bit_of (packed state) v ≡ get_or state v 0
 unfolding bit_of bytes_for byte_number
@@ -119,7 +119,7 @@ packed_bit state b v h =
     let e : 8 * (v / 8) + v % 8 ≡ v = omega arith in
     ap (λ (x : ℕ). x / 2 ^ (v % 8) % 2) (packed_at state (v / 8) (omega arith))
     ∙ number_bit bits (v % 8) (bits_upto 8 (λ k. get_or state (8 * (v / 8) + k) 0) (λ k. b (8 * (v / 8) + k)))
-    ∙ getD-upto 8 (λ k. get_or state (8 * (v / 8) + k) 0) (v % 8) 0 (omega arith)
+    ∙ getD_upto 8 (λ k. get_or state (8 * (v / 8) + k) 0) (v % 8) 0 (omega arith)
     ∙ ap (λ (x : ℕ). get_or state x 0) e
 
 -- a packed state has bytes
@@ -127,17 +127,17 @@ pub packed_byte : (state : List ℕ) → Bits state → (j : ℕ) → j < length
 unfolding byte_number
 packed_byte state b j h =
     let f : ℕ → ℕ = λ k. get_or state (8 * j + k) 0 in
-    let past : (k : ℕ) → 8 ≤ k → get_or (upto 8 f) k 0 ≡ 0 = λ k m. get_or-eq_default (upto 8 f) 0 (omega (arith, length-upto 8 f)) in
+    let past : (k : ℕ) → 8 ≤ k → get_or (upto 8 f) k 0 ≡ 0 = λ k m. get_or-eq_default (upto 8 f) 0 (omega (arith, length_upto 8 f)) in
     rw (packed_at state j (rw (packed_length state) at h))
     (number_lt 8 (upto 8 f) (bits_upto 8 f (λ k. b (8 * j + k))) past)
 
 -- unpacking undoes packing
 pub unpacked_packed : (state : List ℕ) → Bits state → upto (length state) (bit_of (packed state)) ≡ state
 unpacked_packed state b =
-    ext_get_or 0 (upto (length state) (bit_of (packed state))) state (length-upto (length state) (bit_of (packed state)))
+    ext_get_or 0 (upto (length state) (bit_of (packed state))) state (length_upto (length state) (bit_of (packed state)))
     (λ v h.
-    let l : v < length state = rw (length-upto (length state) (bit_of (packed state))) at h in
-    getD-upto (length state) (bit_of (packed state)) v 0 l ∙ packed_bit state b v l)
+    let l : v < length state = rw (length_upto (length state) (bit_of (packed state))) at h in
+    getD_upto (length state) (bit_of (packed state)) v 0 l ∙ packed_bit state b v l)
 
 or_right : (a b : Bool) → b ≡ true → (a || b) ≡ true
 or_right true b e = refl
@@ -161,9 +161,9 @@ last_lt state b =
     zero_at : (k : ℕ) → length state % 8 ≤ k → Dec (k < 8) → get_or (upto 8 f) k 0 ≡ 0
     zero_at k h (yes l) =
         let past : length state ≤ 8 * (length state / 8) + k = omega arith in
-        getD-upto 8 f k 0 l ∙ get_or-eq_default state 0 past
+        getD_upto 8 f k 0 l ∙ get_or-eq_default state 0 past
     zero_at k h (no m) =
-        let past : length (upto 8 f) ≤ k = omega (arith, length-upto 8 f) in
+        let past : length (upto 8 f) ≤ k = omega (arith, length_upto 8 f) in
         get_or-eq_default (upto 8 f) 0 past
 
 pub packed_clear : (state : List ℕ) → Bits state → spare_clear (packed state) (length state) ≡ true
@@ -212,10 +212,10 @@ module _ (bytes : List ℕ) (v : ℕ) (b : Bytes bytes) (size : length bytes ≡
   bit_at j k hj hk (yes l) =
       let q : (8 * j + k) / 8 ≡ j = omega arith in
       let r : (8 * j + k) % 8 ≡ k = omega arith in
-      getD-upto v (bit_of bytes) (8 * j + k) 0 l ∙ rw (q, r)
+      getD_upto v (bit_of bytes) (8 * j + k) 0 l ∙ rw (q, r)
   bit_at j k hj hk (no m) =
       let past : v ≤ 8 * j + k = omega arith in
-      let out : length (upto v (bit_of bytes)) ≤ 8 * j + k = rw (length-upto v (bit_of bytes)) past in
+      let out : length (upto v (bit_of bytes)) ≤ 8 * j + k = rw (length_upto v (bit_of bytes)) past in
       get_or-eq_default (upto v (bit_of bytes)) 0 out ∙ sym (spare j k hj hk past)
 
   number_at : (j : ℕ) → j < bytes_for v → byte_number state_of j ≡ get_or bytes j 0
@@ -225,13 +225,13 @@ module _ (bytes : List ℕ) (v : ℕ) (b : Bytes bytes) (size : length bytes ≡
       ∙ number_of_bits 8 (get_or bytes j 0)
       ∙ mod-eq_of_lt (byte_at bytes j b)
 
-  pub packed-unpacked : packed (upto v (bit_of bytes)) ≡ bytes
+  pub packed_unpacked : packed (upto v (bit_of bytes)) ≡ bytes
   unfolding state_of
-  packed-unpacked =
+  packed_unpacked =
       ext_get_or 0 (packed state_of) bytes (len ∙ sym size)
       (λ j h.
       let l : j < bytes_for v = rw len at h in
-      packed_at state_of j (rw (length-upto v (bit_of bytes)) l) ∙ number_at j l)
+      packed_at state_of j (rw (length_upto v (bit_of bytes)) l) ∙ number_at j l)
     where
       len : length (packed state_of) ≡ bytes_for v
-      len = packed_length state_of ∙ ap bytes_for (length-upto v (bit_of bytes))
+      len = packed_length state_of ∙ ap bytes_for (length_upto v (bit_of bytes))

@@ -113,9 +113,9 @@ module _ (t : Task) (r : Rules t) where
             (omega (arith, l.variables), (twins, (omega (arith, l.formulas), (omega (arith, l.effects), (omega (arith, l.operators), (goal, tt)))))),
       )
 
-  pub file-is-bytes : Bytes (file_of t)
+  pub file_is_bytes : Bytes (file_of t)
   unfolding file_of
-  file-is-bytes =
+  file_is_bytes =
       let c = r.checked in
       let w = r.words in
       bytes_append (head_bytes (head_of t)) _ head_small

@@ -11,7 +11,7 @@ use Rattle.task.specs.Rules.{Checked, HasRoom}
 use Rattle.file_format.specs.Bytes.{file_of}
 use Rattle.file_format.specs.Parse.{Parsed, parsed, unparsed}
 use Rattle.file_format.specs.Reading.{Lengths, task_read, accepted, rejected, at_end, reading}
-use Rattle.file_format.proofs.Parse.{Bytes, parsed-value, parsed-rest, Cut, short, whole}
+use Rattle.file_format.proofs.Parse.{Bytes, parsed_value, parsed_rest, Cut, short, whole}
 use Rattle.file_format.proofs.Whole.{task_reads, task_parsed, task_stable}
 
 -- reading what writing gives yields the task
@@ -81,4 +81,4 @@ apart t u rest r s e =
     let first = task_reads l t rest r (omega arith) in
     let second = task_reads l u [] s (omega arith) in
     let same : parsed t rest ≡ parsed u [] = sym first ∙ ap (task_read l) (e ∙ sym (append-nil (file_of u))) ∙ second in
-    (parsed-value same, parsed-rest same)
+    (parsed_value same, parsed_rest same)

@@ -11,14 +11,14 @@ use lib.Seq.{take-suc, take-append-le, take-length, take-append_seam, get_or-app
 use Rattle.task.specs.Words.{joined}
 use Rattle.task.proofs.Words.{joined_append}
 use Rattle.file_format.specs.Parse.{Parsed, parsed, next, table_read}
-use Rattle.file_format.proofs.Parse.{Bytes, bytes_behind, parsed-value, parsed-rest, next-parsed, next-to, Stable, pure-stable, next-stable}
+use Rattle.file_format.proofs.Parse.{Bytes, bytes_behind, parsed_value, parsed_rest, next_parsed, next_to, Stable, pure_stable, next_stable}
 use Rattle.file_format.proofs.Fields.{Written}
 
 module _ {A : Type 0} (q : A → List ℕ) where
   -- one more row
-  pub joined-more : (xs : List A) (x : A) (rest : List ℕ) → joined q (xs ++ (x ∷ [])) ++ rest ≡ joined q xs ++ (q x ++ rest)
+  pub joined_more : (xs : List A) (x : A) (rest : List ℕ) → joined q (xs ++ (x ∷ [])) ++ rest ≡ joined q xs ++ (q x ++ rest)
   unfolding joined
-  joined-more xs x rest =
+  joined_more xs x rest =
       ap (λ (l : List ℕ). l ++ rest) (joined_append q xs (x ∷ []) ∙ ap (λ (l : List ℕ). joined q xs ++ l) (append-nil (q x)))
       ∙ append_assoc (joined q xs) (q x) rest
 
@@ -37,17 +37,17 @@ module _ {A : Type 0} (q : A → List ℕ) (row : ℕ → List A → List ℕ �
       let r = get_or rows n d in
       let more : List A → List ℕ → Parsed (List A) = λ done rest. next (row n done rest) (λ r. parsed (done ++ (r ∷ []))) in
       ap (λ (l : List A). table_read row (suc n) (joined q l ++ rest)) (take-suc rows n d h)
-      ∙ ap (table_read row (suc n)) (joined-more q (take n rows) r rest)
-      ∙ next-to more (reads_first rows each n (omega arith) (q r ++ rest))
-      ∙ next-to (λ r. parsed (take n rows ++ (r ∷ []))) (each n h rest)
+      ∙ ap (table_read row (suc n)) (joined_more q (take n rows) r rest)
+      ∙ next_to more (reads_first rows each n (omega arith) (q r ++ rest))
+      ∙ next_to (λ r. parsed (take n rows ++ (r ∷ []))) (each n h rest)
       ∙ ap {B = Parsed (List A)} (λ (l : List A). parsed l rest) (sym (take-suc rows n d h))
 
-  pub table-reads :
+  pub table_reads :
       (rows : List A)
       → ((i : ℕ) → i < length rows → (rest : List ℕ) → row i (take i rows) (q (get_or rows i d) ++ rest) ≡ parsed (get_or rows i d) rest)
       → (rest : List ℕ)
       → table_read row (length rows) (joined q rows ++ rest) ≡ parsed rows rest
-  table-reads rows each rest =
+  table_reads rows each rest =
       rw take-length at (reads_first rows each (length rows) (omega arith) rest)
 
   -- a table that was read: its rows stood there, each as its rule (by its number and the rows before it) asks
@@ -71,7 +71,7 @@ module _ {A : Type 0} (q : A → List ℕ) (row : ℕ → List A → List ℕ �
           let e : i ≡ length rows = omega arith in
           rw (e, take-append_seam rows (r ∷ []), get_or-append_seam rows r [] d, size) last
 
-  pub table-parsed :
+  pub table_parsed :
       (Rule : ℕ → List A → A → Type 0)
       → ((i : ℕ) (done : List A) (bytes : List ℕ) (x : A) (rest : List ℕ) → Bytes bytes → row i done bytes ≡ parsed x rest → Written q (Rule i done) bytes x rest)
       → (n : ℕ)
@@ -82,27 +82,27 @@ module _ {A : Type 0} (q : A → List ℕ) (row : ℕ → List A → List ℕ �
       → table_read row n bytes ≡ parsed rows rest
       → Table Rule n bytes rows rest
   unfolding table_read joined
-  table-parsed Rule one zero bytes {rows} {rest} b e =
-      table_same (parsed-value e) (parsed-rest e) (record { same = refl; size = refl; each = λ i h. absurd (not-suc-le-zero h) })
-  table-parsed Rule one (suc n) bytes {rows} {rest} b e =
-      let s = next-parsed (table_read row n bytes) (λ done rest. next (row n done rest) (λ r. parsed (done ++ (r ∷ [])))) e in
-      let t = table-parsed Rule one n bytes b s.first in
+  table_parsed Rule one zero bytes {rows} {rest} b e =
+      table_same (parsed_value e) (parsed_rest e) (record { same = refl; size = refl; each = λ i h. absurd (not-suc-le-zero h) })
+  table_parsed Rule one (suc n) bytes {rows} {rest} b e =
+      let s = next_parsed (table_read row n bytes) (λ done rest. next (row n done rest) (λ r. parsed (done ++ (r ∷ [])))) e in
+      let t = table_parsed Rule one n bytes b s.first in
       let done = s.value in
-      let u = next-parsed (row n done s.mid) (λ r. parsed (done ++ (r ∷ []))) s.second in
+      let u = next_parsed (row n done s.mid) (λ r. parsed (done ++ (r ∷ []))) s.second in
       let below : Bytes s.mid = bytes_behind (joined q done) s.mid (rw t.same at b) in
       let w = one n done s.mid u.value u.mid below u.first in
       let size : length (done ++ (u.value ∷ [])) ≡ suc n = length-append done (u.value ∷ []) ∙ add-one (length done) ∙ ap suc t.size in
-      table_same (parsed-value u.second) (parsed-rest u.second)
+      table_same (parsed_value u.second) (parsed_rest u.second)
       (record {
-        same = t.same ∙ ap (λ (l : List ℕ). joined q done ++ l) w.same ∙ sym (joined-more q done u.value u.mid);
+        same = t.same ∙ ap (λ (l : List ℕ). joined q done ++ l) w.same ∙ sym (joined_more q done u.value u.mid);
         size = size;
         each = each_more Rule n done u.value t.size t.each w.good;
       })
 
 module _ {A : Type 0} (row : ℕ → List A → List ℕ → Parsed A) where
-  pub table-stable : ((i : ℕ) (done : List A) → Stable (row i done)) → (n : ℕ) → Stable (table_read row n)
+  pub table_stable : ((i : ℕ) (done : List A) → Stable (row i done)) → (n : ℕ) → Stable (table_read row n)
   unfolding table_read
-  table-stable one zero = pure-stable []
-  table-stable one (suc n) =
-      next-stable (table_read row n) (λ done rest. next (row n done rest) (λ r. parsed (done ++ (r ∷ [])))) (table-stable one n)
-      (λ done. next-stable (row n done) (λ r. parsed (done ++ (r ∷ []))) (one n done) (λ r. pure-stable (done ++ (r ∷ []))))
+  table_stable one zero = pure_stable []
+  table_stable one (suc n) =
+      next_stable (table_read row n) (λ done rest. next (row n done rest) (λ r. parsed (done ++ (r ∷ [])))) (table_stable one n)
+      (λ done. next_stable (row n done) (λ r. parsed (done ++ (r ∷ []))) (one n done) (λ r. pure_stable (done ++ (r ∷ []))))

@@ -8,7 +8,7 @@ use mathlib.Core.List.{List, [], ◌∷◌, ◌++◌}
 use lib.ListN.{length, get_or, take}
 use lib.Seq.{take-suc, get_or-take}
 use Rattle.task.specs.Bounded.{upto}
-use Rattle.task.proofs.Bounded.{length-upto, getD-upto}
+use Rattle.task.proofs.Bounded.{length_upto, getD_upto}
 use Rattle.task.specs.Table.{Row, Operator}
 use Rattle.task.specs.Check.{twin_kept, formula_kept, effect_kept, operator_number}
 use Rattle.task.specs.Rules.{no_row, no_operator, TwinRule}
@@ -17,11 +17,11 @@ use Rattle.task.proofs.Passed.{twin_tested}
 use Rattle.file_format.specs.Bytes.{word_bytes, row_defaults, operator_defaults, row_bytes, operator_bytes, bytes_for, packed}
 use Rattle.file_format.specs.Parse.{Parsed, parsed, next, kept, byte_read, word_read, table_read}
 use Rattle.file_format.specs.Reading.{initial_read, bit_of, spare_clear, twin_read, row_read, row_clear, row_from, formula_read, effect_read, operator_fields_read, operator_clear, operator_from, operator_right, operator_read}
-use Rattle.file_format.proofs.Parse.{Bytes, bytes_front, kept-parsed, kept-true, Steps, next-parsed, Stable, kept-stable, byte_stable, next-stable}
+use Rattle.file_format.proofs.Parse.{Bytes, bytes_front, kept_parsed, kept_true, Steps, next_parsed, Stable, kept_stable, byte_stable, next_stable}
 use Rattle.file_format.proofs.Fields.{byte_parsed, byte_reads, word_reads, word_parsed, word_stable}
-use Rattle.file_format.proofs.Table.{table-reads, Table, table-parsed, table-stable}
-use Rattle.file_format.proofs.Rows.{row_reads, row_parsed, operator_fields_reads, operator_fields_parsed, mapped-stable, ruled-reads, ruled-parsed, ruled-stable}
-use Rattle.file_format.proofs.Initial.{Bits, unpacked_packed, packed_clear, packed_length, packed-unpacked}
+use Rattle.file_format.proofs.Table.{table_reads, Table, table_parsed, table_stable}
+use Rattle.file_format.proofs.Rows.{row_reads, row_parsed, operator_fields_reads, operator_fields_parsed, mapped_stable, ruled_reads, ruled_parsed, ruled_stable}
+use Rattle.file_format.proofs.Initial.{Bits, unpacked_packed, packed_clear, packed_length, packed_unpacked}
 
 -- plain bytes
 unfoldable pub one_byte : ℕ → List ℕ
@@ -39,9 +39,9 @@ pub initial_reads : (state rest : List ℕ) → Bits state → initial_read (len
 unfolding initial_read plain_byte one_byte next
 initial_reads state rest b =
     let e : table_read plain_byte (bytes_for (length state)) (packed state ++ rest) ≡ parsed (packed state) rest =
-    rw (packed_length state, bytes_joined (packed state)) at (table-reads one_byte plain_byte 0 (packed state) (λ i h rest. byte_reads (get_or (packed state) i 0) rest) rest)
+    rw (packed_length state, bytes_joined (packed state)) at (table_reads one_byte plain_byte 0 (packed state) (λ i h rest. byte_reads (get_or (packed state) i 0) rest) rest)
     in
-    rw (e, unpacked_packed state b) (kept-true (spare_clear (packed state) (length state)) 2 state rest (packed_clear state b))
+    rw (e, unpacked_packed state b) (kept_true (spare_clear (packed state) (length state)) 2 state rest (packed_clear state b))
 
 -- an initial state that was read
 pub record Initial (v : ℕ) (bytes state rest : List ℕ) : Type 0 where
@@ -55,27 +55,27 @@ bit_small bytes v = omega arith
 
 pub initial_parsed : (v : ℕ) (bytes : List ℕ) {state rest : List ℕ} → Bytes bytes → initial_read v bytes ≡ parsed state rest → Initial v bytes state rest
 unfolding initial_read plain_byte one_byte
-initial_parsed v bytes {state} {rest} b e = go (next-parsed (table_read plain_byte (bytes_for v) bytes) (λ packed. kept (spare_clear packed v) 2 (upto v (bit_of packed))) e)
+initial_parsed v bytes {state} {rest} b e = go (next_parsed (table_read plain_byte (bytes_for v) bytes) (λ packed. kept (spare_clear packed v) 2 (upto v (bit_of packed))) e)
   where
     go : Steps (table_read plain_byte (bytes_for v) bytes) (λ packed. kept (spare_clear packed v) 2 (upto v (bit_of packed))) state rest → Initial v bytes state rest
     go s =
-        let t = table-parsed one_byte plain_byte 0 (λ i done x. Unit {0}) (λ i done bytes x rest b e. record { same = byte_parsed bytes e; good = tt }) (bytes_for v) bytes b s.first in
-        let k = kept-parsed (spare_clear s.value v) 2 (upto v (bit_of s.value)) s.mid s.second in
+        let t = table_parsed one_byte plain_byte 0 (λ i done x. Unit {0}) (λ i done bytes x rest b e. record { same = byte_parsed bytes e; good = tt }) (bytes_for v) bytes b s.first in
+        let k = kept_parsed (spare_clear s.value v) 2 (upto v (bit_of s.value)) s.mid s.second in
         let front : bytes ≡ s.value ++ s.mid = t.same ∙ ap (λ (l : List ℕ). l ++ s.mid) (bytes_joined s.value) in
-        let p = packed-unpacked s.value v (bytes_front s.value s.mid (rw front at b)) t.size k.holds in
+        let p = packed_unpacked s.value v (bytes_front s.value s.mid (rw front at b)) t.size k.holds in
         let q : state ≡ upto v (bit_of s.value) = sym k.same in
         record {
           same = cc (front, p, k.same, k.behind);
-          size = ap length q ∙ length-upto v (bit_of s.value);
-          bits = λ i h. rw (q, getD-upto v (bit_of s.value) i 0 h) (bit_small s.value i);
+          size = ap length q ∙ length_upto v (bit_of s.value);
+          bits = λ i h. rw (q, getD_upto v (bit_of s.value) i 0 h) (bit_small s.value i);
         }
 
 pub initial_stable : (v : ℕ) → Stable (initial_read v)
 unfolding initial_read plain_byte
 initial_stable v =
-    next-stable (table_read plain_byte (bytes_for v)) (λ packed. kept (spare_clear packed v) 2 (upto v (bit_of packed)))
-    (table-stable plain_byte (λ i done. byte_stable) (bytes_for v))
-    (λ packed. kept-stable (spare_clear packed v) 2 (upto v (bit_of packed)))
+    next_stable (table_read plain_byte (bytes_for v)) (λ packed. kept (spare_clear packed v) 2 (upto v (bit_of packed)))
+    (table_stable plain_byte (λ i done. byte_stable) (bytes_for v))
+    (λ packed. kept_stable (spare_clear packed v) 2 (upto v (bit_of packed)))
 
 -- what a twin row's test looks at: the rows up to its own
 pub twin_front : (bound : ℕ) (os : List ℕ) (k : ℕ) → k < length os → twin_kept bound (take k os ++ (get_or os k 0 ∷ [])) k ≡ true ↔ TwinRule bound os k
@@ -110,9 +110,9 @@ pub twins_reads :
     → table_read (twin_read bound) (length os) (joined word_bytes os ++ rest) ≡ parsed os rest
 unfolding twin_read
 twins_reads bound os rest rule =
-    table-reads word_bytes (twin_read bound) 0 os
+    table_reads word_bytes (twin_read bound) 0 os
     (λ k h rest.
-    ruled-reads word_read word_bytes (λ w. twin_kept bound (take k os ++ (w ∷ [])) k) (λ w. 9) (get_or os k 0) rest
+    ruled_reads word_read word_bytes (λ w. twin_kept bound (take k os ++ (w ∷ [])) k) (λ w. 9) (get_or os k 0) rest
     (word_reads (get_or os k 0) rest)
     ((twin_front bound os k h).1 (rule k h)))
     rest
@@ -124,9 +124,9 @@ pub twins_parsed :
     → Table word_bytes (twin_read bound) 0 (λ k done w. twin_kept bound (done ++ (w ∷ [])) k ≡ true) n bytes os rest
 unfolding twin_read
 twins_parsed bound n bytes b e =
-    table-parsed word_bytes (twin_read bound) 0 (λ k done w. twin_kept bound (done ++ (w ∷ [])) k ≡ true)
+    table_parsed word_bytes (twin_read bound) 0 (λ k done w. twin_kept bound (done ++ (w ∷ [])) k ≡ true)
     (λ k done bytes x rest b e.
-    ruled-parsed word_read word_bytes (λ w. twin_kept bound (done ++ (w ∷ [])) k) (λ w. 9)
+    ruled_parsed word_read word_bytes (λ w. twin_kept bound (done ++ (w ∷ [])) k) (λ w. 9)
     (λ bytes x rest b e. (word_parsed bytes b e).same)
     bytes x rest b e)
     n bytes b e
@@ -134,47 +134,47 @@ twins_parsed bound n bytes b e =
 pub twins_stable : (bound n : ℕ) → Stable (table_read (twin_read bound) n)
 unfolding twin_read
 twins_stable bound n =
-    table-stable (twin_read bound) (λ k done. ruled-stable word_read word_bytes (λ w. twin_kept bound (done ++ (w ∷ [])) k) (λ w. 9) word_stable) n
+    table_stable (twin_read bound) (λ k done. ruled_stable word_read word_bytes (λ w. twin_kept bound (done ++ (w ∷ [])) k) (λ w. 9) word_stable) n
 
 row_stable : Stable row_read
 unfolding row_read
-row_stable = mapped-stable row_defaults row_clear row_from
+row_stable = mapped_stable row_defaults row_clear row_from
 
 -- Tables of rows: the rule of row i is a test of the row alone.
 module _ {A : Type 0} (q : A → List ℕ) (p : List ℕ → Parsed A) (d : A) (rule : ℕ → A → Bool) (n : A → ℕ) where
   abbrev pub ruled_row : ℕ → List A → List ℕ → Parsed A
   ruled_row i done bytes = next (p bytes) (λ x. kept (rule i x) (n x) x)
 
-  pub rows-reads :
+  pub rows_reads :
       ((x : A) (rest : List ℕ) → p (q x ++ rest) ≡ parsed x rest)
       → (rows : List A) (rest : List ℕ)
       → ((i : ℕ) → i < length rows → rule i (get_or rows i d) ≡ true)
       → table_read ruled_row (length rows) (joined q rows ++ rest) ≡ parsed rows rest
-  rows-reads one rows rest each =
-      table-reads q ruled_row d rows
-      (λ i h rest. ruled-reads p q (rule i) n (get_or rows i d) rest (one (get_or rows i d) rest) (each i h))
+  rows_reads one rows rest each =
+      table_reads q ruled_row d rows
+      (λ i h rest. ruled_reads p q (rule i) n (get_or rows i d) rest (one (get_or rows i d) rest) (each i h))
       rest
 
-  pub rows-parsed :
+  pub rows_parsed :
       ((bytes : List ℕ) (x : A) (rest : List ℕ) → Bytes bytes → p bytes ≡ parsed x rest → bytes ≡ q x ++ rest)
       → (count : ℕ) (bytes : List ℕ) (rows : List A) (rest : List ℕ)
       → Bytes bytes
       → table_read ruled_row count bytes ≡ parsed rows rest
       → Table q ruled_row d (λ i done x. rule i x ≡ true) count bytes rows rest
-  rows-parsed one count bytes rows rest b e =
-      table-parsed q ruled_row d (λ i done x. rule i x ≡ true)
-      (λ i done bytes x rest b e. ruled-parsed p q (rule i) n one bytes x rest b e)
+  rows_parsed one count bytes rows rest b e =
+      table_parsed q ruled_row d (λ i done x. rule i x ≡ true)
+      (λ i done bytes x rest b e. ruled_parsed p q (rule i) n one bytes x rest b e)
       count bytes b e
 
-  pub rows-stable : Stable p → (count : ℕ) → Stable (table_read ruled_row count)
-  rows-stable h count = table-stable ruled_row (λ i done. ruled-stable p q (rule i) n h) count
+  pub rows_stable : Stable p → (count : ℕ) → Stable (table_read ruled_row count)
+  rows_stable h count = table_stable ruled_row (λ i done. ruled_stable p q (rule i) n h) count
 
 pub formulas_reads :
     (v : ℕ) (rows : List Row) (rest : List ℕ)
     → ((i : ℕ) → i < length rows → formula_kept v i (get_or rows i no_row) ≡ true)
     → table_read (formula_read v) (length rows) (joined row_bytes rows ++ rest) ≡ parsed rows rest
 unfolding formula_read
-formulas_reads v rows rest each = rows-reads row_bytes row_read no_row (formula_kept v) (λ x. 10) row_reads rows rest each
+formulas_reads v rows rest each = rows_reads row_bytes row_read no_row (formula_kept v) (λ x. 10) row_reads rows rest each
 
 pub formulas_parsed :
     (v count : ℕ) (bytes : List ℕ) {rows : List Row} {rest : List ℕ}
@@ -183,18 +183,18 @@ pub formulas_parsed :
     → Table row_bytes (formula_read v) no_row (λ i done x. formula_kept v i x ≡ true) count bytes rows rest
 unfolding formula_read
 formulas_parsed v count bytes {rows} {rest} b e =
-    rows-parsed row_bytes row_read no_row (formula_kept v) (λ x. 10) (λ bytes x rest b e. row_parsed bytes b e) count bytes rows rest b e
+    rows_parsed row_bytes row_read no_row (formula_kept v) (λ x. 10) (λ bytes x rest b e. row_parsed bytes b e) count bytes rows rest b e
 
 pub formulas_stable : (v count : ℕ) → Stable (table_read (formula_read v) count)
 unfolding formula_read
-formulas_stable v count = rows-stable row_bytes row_read no_row (formula_kept v) (λ x. 10) row_stable count
+formulas_stable v count = rows_stable row_bytes row_read no_row (formula_kept v) (λ x. 10) row_stable count
 
 pub effects_reads :
     (v f : ℕ) (rows : List Row) (rest : List ℕ)
     → ((i : ℕ) → i < length rows → effect_kept v f i (get_or rows i no_row) ≡ true)
     → table_read (effect_read v f) (length rows) (joined row_bytes rows ++ rest) ≡ parsed rows rest
 unfolding effect_read
-effects_reads v f rows rest each = rows-reads row_bytes row_read no_row (effect_kept v f) (λ x. 11) row_reads rows rest each
+effects_reads v f rows rest each = rows_reads row_bytes row_read no_row (effect_kept v f) (λ x. 11) row_reads rows rest each
 
 pub effects_parsed :
     (v f count : ℕ) (bytes : List ℕ) {rows : List Row} {rest : List ℕ}
@@ -203,11 +203,11 @@ pub effects_parsed :
     → Table row_bytes (effect_read v f) no_row (λ i done x. effect_kept v f i x ≡ true) count bytes rows rest
 unfolding effect_read
 effects_parsed v f count bytes {rows} {rest} b e =
-    rows-parsed row_bytes row_read no_row (effect_kept v f) (λ x. 11) (λ bytes x rest b e. row_parsed bytes b e) count bytes rows rest b e
+    rows_parsed row_bytes row_read no_row (effect_kept v f) (λ x. 11) (λ bytes x rest b e. row_parsed bytes b e) count bytes rows rest b e
 
 pub effects_stable : (v f count : ℕ) → Stable (table_read (effect_read v f) count)
 unfolding effect_read
-effects_stable v f count = rows-stable row_bytes row_read no_row (effect_kept v f) (λ x. 11) row_stable count
+effects_stable v f count = rows_stable row_bytes row_read no_row (effect_kept v f) (λ x. 11) row_stable count
 
 pub operators_reads :
     (f e : ℕ) (rows : List Operator) (rest : List ℕ)
@@ -215,7 +215,7 @@ pub operators_reads :
     → table_read (operator_read f e) (length rows) (joined operator_bytes rows ++ rest) ≡ parsed rows rest
 unfolding operator_read
 operators_reads f e rows rest each =
-    rows-reads operator_bytes operator_fields_read no_operator (λ i. operator_right f e) (operator_number f e) operator_fields_reads rows rest each
+    rows_reads operator_bytes operator_fields_read no_operator (λ i. operator_right f e) (operator_number f e) operator_fields_reads rows rest each
 
 pub operators_parsed :
     (f e count : ℕ) (bytes : List ℕ) {rows : List Operator} {rest : List ℕ}
@@ -224,10 +224,10 @@ pub operators_parsed :
     → Table operator_bytes (operator_read f e) no_operator (λ i done x. operator_right f e x ≡ true) count bytes rows rest
 unfolding operator_read
 operators_parsed f e count bytes {rows} {rest} b q =
-    rows-parsed operator_bytes operator_fields_read no_operator (λ i. operator_right f e) (operator_number f e)
+    rows_parsed operator_bytes operator_fields_read no_operator (λ i. operator_right f e) (operator_number f e)
     (λ bytes x rest b e. operator_fields_parsed bytes b e) count bytes rows rest b q
 
 pub operators_stable : (f e count : ℕ) → Stable (table_read (operator_read f e) count)
 unfolding operator_read operator_fields_read
 operators_stable f e count =
-    rows-stable operator_bytes operator_fields_read no_operator (λ i. operator_right f e) (operator_number f e) (mapped-stable operator_defaults operator_clear operator_from) count
+    rows_stable operator_bytes operator_fields_read no_operator (λ i. operator_right f e) (operator_number f e) (mapped_stable operator_defaults operator_clear operator_from) count

@@ -16,9 +16,9 @@ use Rattle.task.proofs.Passed.{counts_tested, goal_tested, room_tested}
 use Rattle.file_format.specs.Bytes.{word_bytes, head_defaults, head_bytes, row_bytes, operator_bytes, packed, file_of}
 use Rattle.file_format.specs.Parse.{parsed, next}
 use Rattle.file_format.specs.Reading.{Lengths, room, head_read, head_clear, head_from, head_kept, twin_read, formula_read, effect_read, operator_right, operator_read, tables_read, task_read}
-use Rattle.file_format.proofs.Parse.{Bytes, bytes_behind, parsed-value, parsed-rest, kept-parsed, kept-true, next-parsed, Stable, pure-stable, kept-stable, next-stable}
+use Rattle.file_format.proofs.Parse.{Bytes, bytes_behind, parsed_value, parsed_rest, kept_parsed, kept_true, next_parsed, Stable, pure_stable, kept_stable, next_stable}
 use Rattle.file_format.proofs.Table.{Table}
-use Rattle.file_format.proofs.Rows.{head_reads, head_parsed, mapped-stable}
+use Rattle.file_format.proofs.Rows.{head_reads, head_parsed, mapped_stable}
 use Rattle.file_format.proofs.Initial.{bits_of_state}
 use Rattle.file_format.proofs.Tables.{initial_reads, Initial, initial_parsed, initial_stable, twin_front, twins_reads, twins_parsed, twins_stable}
 use Rattle.file_format.proofs.Tables.{formulas_reads, formulas_parsed, formulas_stable, effects_reads, effects_parsed, effects_stable, operators_reads, operators_parsed, operators_stable}
@@ -35,27 +35,27 @@ unfolding file_of tables_bytes
 file_parts t rest = simp append_assoc
 
 module _ (t : Task) (r : Checked t) where
-  formula-test : (i : ℕ) → i < length t.formulas → formula_kept (length t.initial) i (get_or t.formulas i no_row) ≡ true
+  formula_test : (i : ℕ) → i < length t.formulas → formula_kept (length t.initial) i (get_or t.formulas i no_row) ≡ true
   unfolding formula_kept
-  formula-test i h =
+  formula_test i h =
       let x = get_or t.formulas i no_row in
       formula_passes (length t.initial) i (formula_kind x.kind) x.a x.b (r.formula i h)
 
-  effect-test : (i : ℕ) → i < length t.effects → effect_kept (length t.initial) (length t.formulas) i (get_or t.effects i no_row) ≡ true
+  effect_test : (i : ℕ) → i < length t.effects → effect_kept (length t.initial) (length t.formulas) i (get_or t.effects i no_row) ≡ true
   unfolding effect_kept
-  effect-test i h =
+  effect_test i h =
       let x = get_or t.effects i no_row in
       effect_passes (length t.initial) (length t.formulas) i (effect_kind x.kind) x.a x.b (r.effect i h)
 
-  operator-test : (i : ℕ) → i < length t.operators → operator_right (length t.formulas) (length t.effects) (get_or t.operators i no_operator) ≡ true
-  operator-test i h =
+  operator_test : (i : ℕ) → i < length t.operators → operator_right (length t.formulas) (length t.effects) (get_or t.operators i no_operator) ≡ true
+  operator_test i h =
       let o = get_or t.operators i no_operator in
       eq-eqb (operator_number (length t.formulas) (length t.effects) o) 0
       (operator_passes (length t.formulas) (length t.effects) o (r.operator i h))
 
-  tables-reads : (rest : List ℕ) → tables_read (head_of t) (tables_bytes t rest) ≡ parsed t rest
+  tables_reads : (rest : List ℕ) → tables_read (head_of t) (tables_bytes t rest) ≡ parsed t rest
   unfolding tables_read next head_of tables_bytes
-  tables-reads rest =
+  tables_reads rest =
       let o = joined operator_bytes t.operators ++ rest in
       let e = joined row_bytes t.effects ++ o in
       let f = joined row_bytes t.formulas ++ e in
@@ -63,14 +63,14 @@ module _ (t : Task) (r : Checked t) where
       rw (
         initial_reads t.initial w (bits_of_state t.initial r.initial_bits),
         twins_reads (length t.initial - length t.originals) t.originals f r.twin,
-        formulas_reads (length t.initial) t.formulas e formula-test,
-        effects_reads (length t.initial) (length t.formulas) t.effects o effect-test,
-        operators_reads (length t.formulas) (length t.effects) t.operators rest operator-test,
+        formulas_reads (length t.initial) t.formulas e formula_test,
+        effects_reads (length t.initial) (length t.formulas) t.effects o effect_test,
+        operators_reads (length t.formulas) (length t.effects) t.operators rest operator_test,
       )
 
-  counts-test : counts_kept (head_of t) ≡ true
+  counts_test : counts_kept (head_of t) ≡ true
   unfolding head_of
-  counts-test =
+  counts_test =
       (counts_tested (head_of t)).1
       (record {
         variables = r.limits.variables;
@@ -81,9 +81,9 @@ module _ (t : Task) (r : Checked t) where
         operators = r.limits.operators;
       })
 
-  goal-test : goal_kept (head_of t) ≡ true
+  goal_test : goal_kept (head_of t) ≡ true
   unfolding head_of
-  goal-test = (goal_tested (head_of t)).1 r.goal_is_formula
+  goal_test = (goal_tested (head_of t)).1 r.goal_is_formula
 
 roomy_tested : (l : Lengths) (t : Task) → room l (head_of t) ≡ true ↔ HasRoom l t
 unfolding head_of
@@ -96,10 +96,10 @@ task_reads l t rest r h =
     rw (
       file_parts t rest,
       head_reads (head_of t) (tables_bytes t rest),
-      kept-true (counts_kept (head_of t)) 6 (head_of t) (tables_bytes t rest) (counts-test t r),
-      kept-true (goal_kept (head_of t)) 7 (head_of t) (tables_bytes t rest) (goal-test t r),
-      kept-true (room l (head_of t)) 5 (head_of t) (tables_bytes t rest) ((roomy_tested l t).1 h),
-    ) (tables-reads t r rest)
+      kept_true (counts_kept (head_of t)) 6 (head_of t) (tables_bytes t rest) (counts_test t r),
+      kept_true (goal_kept (head_of t)) 7 (head_of t) (tables_bytes t rest) (goal_test t r),
+      kept_true (room l (head_of t)) 5 (head_of t) (tables_bytes t rest) ((roomy_tested l t).1 h),
+    ) (tables_reads t r rest)
 
 -- tables that were read behind a head
 pub record Behind (h : Head) (bytes : List ℕ) (t : Task) (rest : List ℕ) : Type 0 where
@@ -117,7 +117,7 @@ behind_same p q b = rw (← p, ← q) b
 -- the parts, one by one
 module _ (h : Head) (bytes initial m1 originals m2 : List ℕ) (formulas : List Row) (m3 : List ℕ) (effects : List Row) (m4 : List ℕ)
     (operators : List Operator) (m5 : List ℕ) where
-  joined-parts :
+  joined_parts :
       Initial h.variables bytes initial m1
       → Table word_bytes (twin_read (h.variables - h.twins)) 0 (λ k done w. twin_kept (h.variables - h.twins) (done ++ (w ∷ [])) k ≡ true) h.twins m1 originals m2
       → Table row_bytes (formula_read h.variables) no_row (λ i done x. formula_kept h.variables i x ≡ true) h.formulas m2 formulas m3
@@ -125,7 +125,7 @@ module _ (h : Head) (bytes initial m1 originals m2 : List ℕ) (formulas : List 
       → Table operator_bytes (operator_read h.formulas h.effects) no_operator (λ i done x. operator_right h.formulas h.effects x ≡ true) h.operators m4 operators m5
       → Behind h bytes (record { initial = initial; originals = originals; formulas = formulas; effects = effects; operators = operators; goal = h.goal }) m5
   unfolding tables_bytes head_of
-  joined-parts i w f e o =
+  joined_parts i w f e o =
       record {
         same = i.same ∙ rw (w.same, f.same, e.same, o.same);
         head = λ j. record { variables = i.size j; twins = w.size j; formulas = f.size j; effects = e.size j; operators = o.size j; goal = h.goal };
@@ -139,22 +139,22 @@ module _ (h : Head) (bytes initial m1 originals m2 : List ℕ) (formulas : List 
 pub tables_parsed : (h : Head) (bytes : List ℕ) {t : Task} {rest : List ℕ} → Bytes bytes → tables_read h bytes ≡ parsed t rest → Behind h bytes t rest
 unfolding tables_read
 tables_parsed h bytes {t} {rest} b q =
-    let s1 = next-parsed _ _ q in
+    let s1 = next_parsed _ _ q in
     let i = initial_parsed h.variables bytes b s1.first in
     let b1 : Bytes s1.mid = bytes_behind (packed s1.value) s1.mid (rw i.same at b) in
-    let s2 = next-parsed _ _ s1.second in
+    let s2 = next_parsed _ _ s1.second in
     let w = twins_parsed (h.variables - h.twins) h.twins s1.mid b1 s2.first in
     let b2 : Bytes s2.mid = bytes_behind (joined word_bytes s2.value) s2.mid (rw w.same at b1) in
-    let s3 = next-parsed _ _ s2.second in
+    let s3 = next_parsed _ _ s2.second in
     let f = formulas_parsed h.variables h.formulas s2.mid b2 s3.first in
     let b3 : Bytes s3.mid = bytes_behind (joined row_bytes s3.value) s3.mid (rw f.same at b2) in
-    let s4 = next-parsed _ _ s3.second in
+    let s4 = next_parsed _ _ s3.second in
     let e = effects_parsed h.variables h.formulas h.effects s3.mid b3 s4.first in
     let b4 : Bytes s4.mid = bytes_behind (joined row_bytes s4.value) s4.mid (rw e.same at b3) in
-    let s5 = next-parsed _ _ s4.second in
+    let s5 = next_parsed _ _ s4.second in
     let o = operators_parsed h.formulas h.effects h.operators s4.mid b4 s5.first in
-    behind_same (parsed-value s5.second) (parsed-rest s5.second)
-    (joined-parts h bytes s1.value s1.mid s2.value s2.mid s3.value s3.mid s4.value s4.mid s5.value s5.mid i w f e o)
+    behind_same (parsed_value s5.second) (parsed_rest s5.second)
+    (joined_parts h bytes s1.value s1.mid s2.value s2.mid s3.value s3.mid s4.value s4.mid s5.value s5.mid i w f e o)
 
 -- the rules, from the tests that a read task passed
 rules_told : (h : Head) (bytes : List ℕ) (t : Task) (rest : List ℕ) → Behind h bytes t rest → Counts h → h.goal < h.formulas → Checked t
@@ -201,13 +201,13 @@ pub record Task_read (l : Lengths) (bytes : List ℕ) (t : Task) (rest : List �
 pub task_parsed : (l : Lengths) (bytes : List ℕ) {t : Task} {rest : List ℕ} → Bytes bytes → task_read l bytes ≡ parsed t rest → Task_read l bytes t rest
 unfolding task_read head_kept
 task_parsed l bytes {t} {rest} b q =
-    let s1 = next-parsed _ _ q in
-    let s2 = next-parsed _ _ s1.second in
-    let s3 = next-parsed _ _ s2.first in
-    let s4 = next-parsed _ _ s3.second in
-    let k3 = kept-parsed (counts_kept s1.value) 6 s1.value s1.mid s3.first in
-    let k4 = kept-parsed (goal_kept s3.value) 7 s3.value s3.mid s4.first in
-    let k5 = kept-parsed (room l s4.value) 5 s4.value s4.mid s4.second in
+    let s1 = next_parsed _ _ q in
+    let s2 = next_parsed _ _ s1.second in
+    let s3 = next_parsed _ _ s2.first in
+    let s4 = next_parsed _ _ s3.second in
+    let k3 = kept_parsed (counts_kept s1.value) 6 s1.value s1.mid s3.first in
+    let k4 = kept_parsed (goal_kept s3.value) 7 s3.value s3.mid s4.first in
+    let k5 = kept_parsed (room l s4.value) 5 s4.value s4.mid s4.second in
     let front : bytes ≡ head_bytes s1.value ++ s1.mid = head_parsed bytes b s1.first in
     let h : s1.value ≡ s2.value = k3.same ∙ k4.same ∙ k5.same in
     let m : s1.mid ≡ s2.mid = k3.behind ∙ k4.behind ∙ k5.behind in
@@ -225,19 +225,19 @@ task_parsed l bytes {t} {rest} b q =
 tables_stable : (h : Head) → Stable (tables_read h)
 unfolding tables_read
 tables_stable h =
-    next-stable _ _ (initial_stable h.variables) (λ initial.
-    next-stable _ _ (twins_stable (h.variables - h.twins) h.twins) (λ originals.
-    next-stable _ _ (formulas_stable h.variables h.formulas) (λ formulas.
-    next-stable _ _ (effects_stable h.variables h.formulas h.effects) (λ effects.
-    next-stable _ _ (operators_stable h.formulas h.effects h.operators) (λ operators. pure-stable _)))))
+    next_stable _ _ (initial_stable h.variables) (λ initial.
+    next_stable _ _ (twins_stable (h.variables - h.twins) h.twins) (λ originals.
+    next_stable _ _ (formulas_stable h.variables h.formulas) (λ formulas.
+    next_stable _ _ (effects_stable h.variables h.formulas h.effects) (λ effects.
+    next_stable _ _ (operators_stable h.formulas h.effects h.operators) (λ operators. pure_stable _)))))
 
 head_kept_stable : (l : Lengths) (h : Head) → Stable (head_kept l h)
 unfolding head_kept
 head_kept_stable l h =
-    next-stable _ _ (kept-stable (counts_kept h) 6 h) (λ h.
-    next-stable _ _ (kept-stable (goal_kept h) 7 h) (λ h. kept-stable (room l h) 5 h))
+    next_stable _ _ (kept_stable (counts_kept h) 6 h) (λ h.
+    next_stable _ _ (kept_stable (goal_kept h) 7 h) (λ h. kept_stable (room l h) 5 h))
 
 pub task_stable : (l : Lengths) → Stable (task_read l)
 unfolding task_read head_read
 task_stable l =
-    next-stable _ _ (mapped-stable head_defaults head_clear head_from) (λ h. next-stable _ _ (head_kept_stable l h) tables_stable)
+    next_stable _ _ (mapped_stable head_defaults head_clear head_from) (λ h. next_stable _ _ (head_kept_stable l h) tables_stable)

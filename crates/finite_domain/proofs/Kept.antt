@@ -12,9 +12,9 @@ use Rattle.task.proofs.Passed.{goal_tested}
 use Rattle.finite_domain.specs.Table.{FiniteLent, finite_task_of}
 use Rattle.finite_domain.specs.Check.{finite_formula_number, finite_effect_number, finite_formulas_number, finite_effects_number, finite_operators_number, finite_refusal}
 use Rattle.finite_domain.specs.Rules.{FiniteLimits, FiniteRules, FiniteCosts, FiniteLongEnough}
-use Rattle.finite_domain.proofs.Held.{finite-length-counts, finite-length-initial, finite-length-formulas, finite-length-effects, finite-length-operators, count_held, initial-value-held, finite-formula-held, finite-effect-held, finite-operator-held, finite-goal-held}
+use Rattle.finite_domain.proofs.Held.{finite_length_counts, finite_length_initial, finite_length_formulas, finite_length_effects, finite_length_operators, count_held, initial_value_held, finite_formula_held, finite_effect_held, finite_operator_held, finite_goal_held}
 use Rattle.finite_domain.proofs.RowRules.{finite-formula-told, finite-formula-passes, finite-effect-told, finite-effect-passes}
-use Rattle.finite_domain.proofs.Passed.{FinitePassed, finite_passed, finite_not_refused, finite_counts_tested, finite-lengths-tested, values-tested, initial-values-tested}
+use Rattle.finite_domain.proofs.Passed.{FinitePassed, finite_passed, finite_not_refused, finite_counts_tested, finite_lengths_tested, values_tested, initial_values_tested}
 
 module _ (l : FiniteLent) where
   abbrev formula_number_at : ℕ → ℕ
@@ -26,9 +26,9 @@ module _ (l : FiniteLent) where
   abbrev operator_number_at : ℕ → ℕ
   operator_number_at i = operator_number l.head.formulas l.head.effects (operator_at l.operators i)
 
-  long-from : FinitePassed l → FiniteLongEnough l
-  long-from p =
-      let room = (finite-lengths-tested l).0 p.lengths in
+  long_from : FinitePassed l → FiniteLongEnough l
+  long_from p =
+      let room = (finite_lengths_tested l).0 p.lengths in
       record {
         no_twins = ((finite_counts_tested l.head).0 p.counts).1;
         counts = room.counts;
@@ -38,90 +38,90 @@ module _ (l : FiniteLent) where
         operators = room.operators;
       }
 
-  limits-from : FiniteLongEnough l → l.head.variables ≤ 64 → Counts l.head → FiniteLimits (finite_task_of l)
-  limits-from long few c =
+  limits_from : FiniteLongEnough l → l.head.variables ≤ 64 → Counts l.head → FiniteLimits (finite_task_of l)
+  limits_from long few c =
       record {
-        variables = rw (finite-length-counts l long) few;
-        one_formula = rw (finite-length-formulas l) c.one_formula;
-        formulas = rw (finite-length-formulas l) c.formulas;
-        effects = rw (finite-length-effects l) c.effects;
-        operators = rw (finite-length-operators l) c.operators;
+        variables = rw (finite_length_counts l long) few;
+        one_formula = rw (finite_length_formulas l) c.one_formula;
+        formulas = rw (finite_length_formulas l) c.formulas;
+        effects = rw (finite_length_effects l) c.effects;
+        operators = rw (finite_length_operators l) c.operators;
       }
 
-  rules-from : FiniteLongEnough l → FinitePassed l → FiniteRules (finite_task_of l)
+  rules_from : FiniteLongEnough l → FinitePassed l → FiniteRules (finite_task_of l)
   unfolding finite_formulas_number finite_effects_number finite_operators_number
-  rules-from long p =
+  rules_from long p =
       let t = finite_task_of l in
       let v = l.head.variables in
       let counts = (finite_counts_tested l.head).0 p.counts in
-      let wide = finite-length-counts l long in
+      let wide = finite_length_counts l long in
       record {
-        limits = limits-from long counts.0 counts.2;
-        width = rw (wide, finite-length-initial l long);
-        goal_is_formula = rw (finite-length-formulas l, finite-goal-held l) ((goal_tested l.head).0 p.goal);
+        limits = limits_from long counts.0 counts.2;
+        width = rw (wide, finite_length_initial l long);
+        goal_is_formula = rw (finite_length_formulas l, finite_goal_held l) ((goal_tested l.head).0 p.goal);
         count_low =
             λ a h.
             let b : a < v = rw wide at h in
-            rw (count_held l a b) ((values-tested l).0 p.values a b).0;
+            rw (count_held l a b) ((values_tested l).0 p.values a b).0;
         count_high =
             λ a h.
             let b : a < v = rw wide at h in
-            rw (count_held l a b) ((values-tested l).0 p.values a b).1;
+            rw (count_held l a b) ((values_tested l).0 p.values a b).1;
         initial_value =
             λ a h.
             let b : a < v = rw wide at h in
-            rw (count_held l a b, initial-value-held l a b) ((initial-values-tested l).0 p.initial a b);
+            rw (count_held l a b, initial_value_held l a b) ((initial_values_tested l).0 p.initial a b);
         formula =
             λ i h.
-            let b : i < l.head.formulas = rw (finite-length-formulas l) at h in
-            rw (finite-formula-held l i b)
+            let b : i < l.head.formulas = rw (finite_length_formulas l) at h in
+            rw (finite_formula_held l i b)
             (finite-formula-told l.counts t.counts v wide (count_held l) i (row_at l.formulas i)
             (first_at l.head.formulas formula_number_at p.formulas i b));
         effect =
             λ i h.
-            let b : i < l.head.effects = rw (finite-length-effects l) at h in
-            rw (finite-length-formulas l, finite-effect-held l i b)
+            let b : i < l.head.effects = rw (finite_length_effects l) at h in
+            rw (finite_length_formulas l, finite_effect_held l i b)
             (finite-effect-told l.counts t.counts v wide (count_held l) l.head.formulas i (row_at l.effects i)
             (first_at l.head.effects effect_number_at p.effects i b));
         operator =
             λ i h.
-            let b : i < l.head.operators = rw (finite-length-operators l) at h in
-            rw (finite-length-formulas l, finite-length-effects l, finite-operator-held l i b)
+            let b : i < l.head.operators = rw (finite_length_operators l) at h in
+            rw (finite_length_formulas l, finite_length_effects l, finite_operator_held l i b)
             (operator_told l.head.formulas l.head.effects (operator_at l.operators i)
             (first_at l.head.operators operator_number_at p.operators i b));
       }
 
-  pub finite-kept-rules : finite_refusal l ≡ 0 → FiniteLongEnough l × FiniteRules (finite_task_of l)
-  finite-kept-rules e =
+  pub finite_kept_rules : finite_refusal l ≡ 0 → FiniteLongEnough l × FiniteRules (finite_task_of l)
+  finite_kept_rules e =
       let p = finite_passed l e in
-      let long = long-from p in
-      (long, rules-from long p)
+      let long = long_from p in
+      (long, rules_from long p)
 
-  counts-from : FiniteLongEnough l → FiniteLimits (finite_task_of l) → Counts l.head
-  counts-from long r =
-      let few : l.head.variables ≤ 64 = rw (finite-length-counts l long) at r.variables in
+  counts_from : FiniteLongEnough l → FiniteLimits (finite_task_of l) → Counts l.head
+  counts_from long r =
+      let few : l.head.variables ≤ 64 = rw (finite_length_counts l long) at r.variables in
       record {
         variables = omega arith;
         twins = omega (arith, long.no_twins);
-        one_formula = rw (finite-length-formulas l) at r.one_formula;
-        formulas = rw (finite-length-formulas l) at r.formulas;
-        effects = rw (finite-length-effects l) at r.effects;
-        operators = rw (finite-length-operators l) at r.operators;
+        one_formula = rw (finite_length_formulas l) at r.one_formula;
+        formulas = rw (finite_length_formulas l) at r.formulas;
+        effects = rw (finite_length_effects l) at r.effects;
+        operators = rw (finite_length_operators l) at r.operators;
       }
 
-  pub finite-rules-kept : FiniteLongEnough l → FiniteRules (finite_task_of l) → finite_refusal l ≡ 0
+  pub finite_rules_kept : FiniteLongEnough l → FiniteRules (finite_task_of l) → finite_refusal l ≡ 0
   unfolding finite_formulas_number finite_effects_number finite_operators_number
-  finite-rules-kept long r =
+  finite_rules_kept long r =
       let t = finite_task_of l in
       let v = l.head.variables in
-      let wide = finite-length-counts l long in
+      let wide = finite_length_counts l long in
       finite_not_refused l
       (record {
         counts =
-            (finite_counts_tested l.head).1 (rw wide at r.limits.variables, long.no_twins, counts-from long r.limits);
-        goal = (goal_tested l.head).1 (rw (finite-length-formulas l, finite-goal-held l) at r.goal_is_formula);
+            (finite_counts_tested l.head).1 (rw wide at r.limits.variables, long.no_twins, counts_from long r.limits);
+        goal = (goal_tested l.head).1 (rw (finite_length_formulas l, finite_goal_held l) at r.goal_is_formula);
         lengths =
-            (finite-lengths-tested l).1
+            (finite_lengths_tested l).1
             (record {
               counts = long.counts;
               initial = long.initial;
@@ -130,37 +130,37 @@ module _ (l : FiniteLent) where
               operators = long.operators;
             });
         values =
-            (values-tested l).1 (λ a b.
+            (values_tested l).1 (λ a b.
             (rw (count_held l a b) at (r.count_low a (rw wide b)), rw (count_held l a b) at (r.count_high a (rw wide b))));
         initial =
-            (initial-values-tested l).1 (λ a b.
-            rw (count_held l a b, initial-value-held l a b) at (r.initial_value a (rw wide b)));
+            (initial_values_tested l).1 (λ a b.
+            rw (count_held l a b, initial_value_held l a b) at (r.initial_value a (rw wide b)));
         formulas =
             first_from l.head.formulas formula_number_at (λ i b.
             finite-formula-passes l.counts t.counts v wide (count_held l) i (row_at l.formulas i)
-            (rw (finite-formula-held l i b) at (r.formula i (rw (finite-length-formulas l) b))));
+            (rw (finite_formula_held l i b) at (r.formula i (rw (finite_length_formulas l) b))));
         effects =
             first_from l.head.effects effect_number_at (λ i b.
             finite-effect-passes l.counts t.counts v wide (count_held l) l.head.formulas i (row_at l.effects i)
-            (rw (finite-length-formulas l, finite-effect-held l i b) at (r.effect i (rw (finite-length-effects l) b))));
+            (rw (finite_length_formulas l, finite_effect_held l i b) at (r.effect i (rw (finite_length_effects l) b))));
         operators =
             first_from l.head.operators operator_number_at (λ i b.
             operator_passes l.head.formulas l.head.effects (operator_at l.operators i)
-            (rw (finite-length-formulas l, finite-length-effects l, finite-operator-held l i b) at
-            (r.operator i (rw (finite-length-operators l) b))));
+            (rw (finite_length_formulas l, finite_length_effects l, finite_operator_held l i b) at
+            (r.operator i (rw (finite_length_operators l) b))));
       })
 
   -- lent words are unsigned 16-bit, and so are the costs among them
-  pub finite-costs :
+  pub finite_costs :
       ((i : ℕ) → i < length l.operators → get_or l.operators i 0 < word_limit)
       → FiniteLongEnough l
       → FiniteCosts (finite_task_of l)
   unfolding operator_at
-  finite-costs words long =
+  finite_costs words long =
       record {
         cost =
             λ i h.
-            let b : i < l.head.operators = rw (finite-length-operators l) at h in
-            rw (finite-operator-held l i b)
+            let b : i < l.head.operators = rw (finite_length_operators l) at h in
+            rw (finite_operator_held l i b)
             (words (operator_width * i + 2) (omega (arith, long.operators)));
       }

@@ -34,14 +34,14 @@ module _ (l : FiniteLent) where
   abbrev Rows_number : ℕ
   Rows_number = or_else (finite_formulas_number l) (or_else (finite_effects_number l) (finite_operators_number l))
 
-  pub finite-6 : finite_counts_kept l.head ≡ false → 6 ≡ finite_refusal l
+  pub finite_6 : finite_counts_kept l.head ≡ false → 6 ≡ finite_refusal l
   unfolding finite_refusal
-  finite-6 e = rw e
+  finite_6 e = rw e
 
   module _ (a : finite_counts_kept l.head ≡ true) where
-    pub finite-7 : goal_kept l.head ≡ false → 7 ≡ finite_refusal l
+    pub finite_7 : goal_kept l.head ≡ false → 7 ≡ finite_refusal l
     unfolding finite_refusal
-    finite-7 e = rw (a, e)
+    finite_7 e = rw (a, e)
 
     module _ (b : goal_kept l.head ≡ true) where
       pub finite-5 : finite_long_enough l ≡ false → 5 ≡ finite_refusal l

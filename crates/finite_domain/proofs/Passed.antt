@@ -87,9 +87,9 @@ pub record FiniteRoom (l : FiniteLent) : Type 0 where
   pub operators : operator_width * l.head.operators ≤ length l.operators
 
 module _ (l : FiniteLent) where
-  pub finite-lengths-tested : finite_long_enough l ≡ true ↔ FiniteRoom l
+  pub finite_lengths_tested : finite_long_enough l ≡ true ↔ FiniteRoom l
   unfolding finite_long_enough
-  finite-lengths-tested = (told, tested)
+  finite_lengths_tested = (told, tested)
     where
       told : finite_long_enough l ≡ true → FiniteRoom l
       told e =
@@ -110,11 +110,11 @@ module _ (l : FiniteLent) where
           (and_both (le-leb (3 * l.head.effects) (length l.effects) r.effects)
           (le-leb (operator_width * l.head.operators) (length l.operators) r.operators))))
 
-  pub values-tested :
+  pub values_tested :
       value_counts_kept l ≡ true
       ↔ ((a : ℕ) → a < l.head.variables → (1 ≤ get_or l.counts a 0) × (get_or l.counts a 0 ≤ 16))
   unfolding value_counts_kept count_kept
-  values-tested = (
+  values_tested = (
     λ e a h.
         let n = get_or l.counts a 0 in
         let both = every_at l.head.variables test e a h in
@@ -128,11 +128,11 @@ module _ (l : FiniteLent) where
       test : ℕ → Bool
       test a = count_kept (get_or l.counts a 0)
 
-  pub initial-values-tested :
+  pub initial_values_tested :
       initial_values_kept l ≡ true
       ↔ ((a : ℕ) → a < l.head.variables → get_or l.initial a 0 < get_or l.counts a 0)
   unfolding initial_values_kept value_kept
-  initial-values-tested = (
+  initial_values_tested = (
     λ e a h. ltb-true (get_or l.initial a 0) (get_or l.counts a 0) (every_at l.head.variables test e a h),
     λ r.
         every_from l.head.variables test (λ a h. lt-ltb (get_or l.initial a 0) (get_or l.counts a 0) (r a h)),

@@ -23,8 +23,8 @@ module _
         let h = ltb-true a v p in
         record { variable = rw long h; value = rw (same a h) (ltb-true b (get_or lent a 0) q) }
 
-    variable-passes : (a b : ℕ) → ValueRule counts a b → ltb a v ≡ true
-    variable-passes a b r = lt-ltb a v (rw long at r.variable)
+    variable_passes : (a b : ℕ) → ValueRule counts a b → ltb a v ≡ true
+    variable_passes a b r = lt-ltb a v (rw long at r.variable)
 
     value_passes : (a b : ℕ) → ValueRule counts a b → value_kept lent a b ≡ true
     unfolding value_kept
@@ -56,7 +56,7 @@ module _
       unfolding finite_formula_kept formula_value_kept
       formula-kind-passes false_kind a b r = rw (formula_passes v i false_kind a b r) refl
       formula-kind-passes true_kind a b r = rw (formula_passes v i true_kind a b r) refl
-      formula-kind-passes variable_kind a b r = rw (variable-passes a b r, value_passes a b r) refl
+      formula-kind-passes variable_kind a b r = rw (variable_passes a b r, value_passes a b r) refl
       formula-kind-passes not_kind a b r = rw (formula_passes v i not_kind a b r) refl
       formula-kind-passes and_kind a b r = rw (formula_passes v i and_kind a b r) refl
       formula-kind-passes or_kind a b r = rw (formula_passes v i or_kind a b r) refl
@@ -96,7 +96,7 @@ module _
       effect-kind-passes : (k : EffectKind) (a b : ℕ) → FiniteEffectRule counts f i k a b → Effect_told k a b ≡ 0
       unfolding finite_effect_kept effect_value_kept
       effect-kind-passes empty_kind a b r = rw (effect_passes v f i empty_kind a b r) refl
-      effect-kind-passes set_kind a b r = rw (variable-passes a b r, value_passes a b r) refl
+      effect-kind-passes set_kind a b r = rw (variable_passes a b r, value_passes a b r) refl
       effect-kind-passes clear_kind a b r = absurd r
       effect-kind-passes both_kind a b r = rw (effect_passes v f i both_kind a b r) refl
       effect-kind-passes under_kind a b r = rw (effect_passes v f i under_kind a b r) refl

@@ -19,17 +19,17 @@ use Rattle.finite_domain.specs.Inner.Tables.{finite_words_number, finite_row_num
 
 -- the head's counts
 module _ (h : Head) where
-  pub many-variables : 64 < h.variables → false ≡ finite_counts_kept h
+  pub many_variables : 64 < h.variables → false ≡ finite_counts_kept h
   unfolding finite_counts_kept
-  many-variables a = rw (lt-leb h.variables 64 a)
+  many_variables a = rw (lt-leb h.variables 64 a)
 
-  pub some-twins : (h.twins ≡ 0 → ⊥) → false ≡ finite_counts_kept h
+  pub some_twins : (h.twins ≡ 0 → ⊥) → false ≡ finite_counts_kept h
   unfolding finite_counts_kept
-  some-twins a = rw (ne_eqb h.twins 0 a) (sym (and_false (leb h.variables 64)))
+  some_twins a = rw (ne_eqb h.twins 0 a) (sym (and_false (leb h.variables 64)))
 
-  pub other-counts : h.variables ≤ 64 → h.twins ≡ 0 → counts_kept h ≡ finite_counts_kept h
+  pub other_counts : h.variables ≤ 64 → h.twins ≡ 0 → counts_kept h ≡ finite_counts_kept h
   unfolding finite_counts_kept
-  other-counts a b = rw (le-leb h.variables 64 a, eq-eqb h.twins 0 b)
+  other_counts a b = rw (le-leb h.variables 64 a, eq-eqb h.twins 0 b)
 
 -- the last test of the lengths, where those before it passed
 pub finite_lengths_last :
@@ -59,91 +59,91 @@ some_value n h = rw (le-leb 1 n h)
 
 -- a variable's value
 module _ (counts : List ℕ) (a b : ℕ) where
-  pub value-outside : get_or counts a 0 ≤ b → value_kept counts a b ≡ false
+  pub value_outside : get_or counts a 0 ≤ b → value_kept counts a b ≡ false
   unfolding value_kept
-  value-outside h = le-ltb b (get_or counts a 0) h
+  value_outside h = le-ltb b (get_or counts a 0) h
 
-  pub value-inside : b < get_or counts a 0 → value_kept counts a b ≡ true
+  pub value_inside : b < get_or counts a 0 → value_kept counts a b ≡ true
   unfolding value_kept
-  value-inside h = lt-ltb b (get_or counts a 0) h
+  value_inside h = lt-ltb b (get_or counts a 0) h
 
   -- in a row whose table has its own number for a variable that is not there
   module _ (v own : ℕ) where
     abbrev Number : ℕ
     Number = unless (ltb a v) own (unless (value_kept counts a b) 26 0)
 
-    pub no-variable : v ≤ a → own ≡ Number
-    no-variable h = rw (le-ltb a v h)
+    pub no_variable : v ≤ a → own ≡ Number
+    no_variable h = rw (le-ltb a v h)
 
-    pub number-26 : a < v → get_or counts a 0 ≤ b → 26 ≡ Number
-    number-26 h k = rw (lt-ltb a v h, value-outside k)
+    pub number_26 : a < v → get_or counts a 0 ≤ b → 26 ≡ Number
+    number_26 h k = rw (lt-ltb a v h, value_outside k)
 
-    pub number-none : a < v → b < get_or counts a 0 → 0 ≡ Number
-    number-none h k = rw (lt-ltb a v h, value-inside k)
+    pub number_none : a < v → b < get_or counts a 0 → 0 ≡ Number
+    number_none h k = rw (lt-ltb a v h, value_inside k)
 
 -- a formula row by its kind
 module _ (counts : List ℕ) (v i a b : ℕ) where
   abbrev Formula_number : ℕ → ℕ
   Formula_number kind = finite_formula_number counts v i (record { kind = kind; a = a; b = b })
 
-  pub formula-leaf :
+  pub formula_leaf :
       (kind : ℕ) → kind ≡ 8 → unless (ltb a v) 10 (unless (value_kept counts a b) 26 0) ≡ Formula_number kind
   unfolding finite_formula_number finite_formula_kind finite_formula_kept formula_value_kept
-  formula-leaf kind e = rw e
+  formula_leaf kind e = rw e
 
-  pub formula-no-leaf : (kind : ℕ) → kind ≡ 2 → 10 ≡ Formula_number kind
+  pub formula_no_leaf : (kind : ℕ) → kind ≡ 2 → 10 ≡ Formula_number kind
   unfolding finite_formula_number finite_formula_kind finite_formula_kept
-  formula-no-leaf kind e = rw e
+  formula_no_leaf kind e = rw e
 
-  pub formula-other :
+  pub formula_other :
       (kind : ℕ)
       → (kind ≡ 8 → ⊥)
       → (kind ≡ 2 → ⊥)
       → unless (formula_words_kept v i (formula_kind kind) a b) 10 0 ≡ Formula_number kind
   unfolding formula_words_kept formula_kind finite_formula_number finite_formula_kind finite_formula_kept formula_value_kept
-  formula-other zero l h = refl
-  formula-other (suc zero) l h = refl
-  formula-other (suc (suc zero)) l h = absurd (h refl)
-  formula-other (suc (suc (suc zero))) l h = refl
-  formula-other (suc (suc (suc (suc zero)))) l h = refl
-  formula-other (suc (suc (suc (suc (suc zero))))) l h = refl
-  formula-other (suc (suc (suc (suc (suc (suc zero)))))) l h = refl
-  formula-other (suc (suc (suc (suc (suc (suc (suc zero))))))) l h = refl
-  formula-other (suc (suc (suc (suc (suc (suc (suc (suc zero)))))))) l h = absurd (l refl)
-  formula-other (suc (suc (suc (suc (suc (suc (suc (suc (suc n))))))))) l h = refl
+  formula_other zero l h = refl
+  formula_other (suc zero) l h = refl
+  formula_other (suc (suc zero)) l h = absurd (h refl)
+  formula_other (suc (suc (suc zero))) l h = refl
+  formula_other (suc (suc (suc (suc zero)))) l h = refl
+  formula_other (suc (suc (suc (suc (suc zero))))) l h = refl
+  formula_other (suc (suc (suc (suc (suc (suc zero)))))) l h = refl
+  formula_other (suc (suc (suc (suc (suc (suc (suc zero))))))) l h = refl
+  formula_other (suc (suc (suc (suc (suc (suc (suc (suc zero)))))))) l h = absurd (l refl)
+  formula_other (suc (suc (suc (suc (suc (suc (suc (suc (suc n))))))))) l h = refl
 
 -- an effect row by its kind
 module _ (counts : List ℕ) (v f i a b : ℕ) where
   abbrev Effect_number : ℕ → ℕ
   Effect_number kind = finite_effect_number counts v f i (record { kind = kind; a = a; b = b })
 
-  pub effect-leaf :
+  pub effect_leaf :
       (kind : ℕ) → kind ≡ 5 → unless (ltb a v) 11 (unless (value_kept counts a b) 26 0) ≡ Effect_number kind
   unfolding finite_effect_number finite_effect_kind finite_effect_kept effect_value_kept
-  effect-leaf kind e = rw e
+  effect_leaf kind e = rw e
 
-  pub effect-no-set : (kind : ℕ) → kind ≡ 1 → 11 ≡ Effect_number kind
+  pub effect_no_set : (kind : ℕ) → kind ≡ 1 → 11 ≡ Effect_number kind
   unfolding finite_effect_number finite_effect_kind finite_effect_kept
-  effect-no-set kind e = rw e
+  effect_no_set kind e = rw e
 
-  pub effect-no-clear : (kind : ℕ) → kind ≡ 2 → 11 ≡ Effect_number kind
+  pub effect_no_clear : (kind : ℕ) → kind ≡ 2 → 11 ≡ Effect_number kind
   unfolding finite_effect_number finite_effect_kind finite_effect_kept
-  effect-no-clear kind e = rw e
+  effect_no_clear kind e = rw e
 
-  pub effect-other :
+  pub effect_other :
       (kind : ℕ)
       → (kind ≡ 5 → ⊥)
       → (kind ≡ 1 → ⊥)
       → (kind ≡ 2 → ⊥)
       → unless (effect_words_kept v f i (effect_kind kind) a b) 11 0 ≡ Effect_number kind
   unfolding effect_words_kept effect_kind finite_effect_number finite_effect_kind finite_effect_kept effect_value_kept
-  effect-other zero l g h = refl
-  effect-other (suc zero) l g h = absurd (g refl)
-  effect-other (suc (suc zero)) l g h = absurd (h refl)
-  effect-other (suc (suc (suc zero))) l g h = refl
-  effect-other (suc (suc (suc (suc zero)))) l g h = refl
-  effect-other (suc (suc (suc (suc (suc zero))))) l g h = absurd (l refl)
-  effect-other (suc (suc (suc (suc (suc (suc n)))))) l g h = refl
+  effect_other zero l g h = refl
+  effect_other (suc zero) l g h = absurd (g refl)
+  effect_other (suc (suc zero)) l g h = absurd (h refl)
+  effect_other (suc (suc (suc zero))) l g h = refl
+  effect_other (suc (suc (suc (suc zero)))) l g h = refl
+  effect_other (suc (suc (suc (suc (suc zero))))) l g h = absurd (l refl)
+  effect_other (suc (suc (suc (suc (suc (suc n)))))) l g h = refl
 
 -- a row of any of the three tables is tested by its words
 pub finite_row_tested :

@@ -17,7 +17,7 @@ use Rattle.task.proofs.Words.{length_words, words_append}
 use Rattle.normal_form.specs.Assembly.{Written}
 use Rattle.translation.specs.Effects.{and_row, and_clear, and_clears}
 use Rattle.normal_form.proofs.Growth.{longer}
-use Rattle.translation.proofs.EffectRows.{clear-skips, clears-prefix}
+use Rattle.translation.proofs.EffectRows.{clear_skips, clears_prefix}
 use Rattle.flag_tables.specs.declared.Chain.{Chain}
 use Rattle.flag_tables.specs.Inner.Front.{at_front}
 use Rattle.flag_tables.specs.Inner.Effects.{Holds, Ready, Writes, row_step, becomes_step}
@@ -28,14 +28,14 @@ filled at = record { rows = at.rows; stands = at.stands; full = true }
 
 -- Done, over, or full from before.
 module _ {step : Written → Written} {room : ℕ} {at : Chain} {before : List ℕ} where
-  writes-done :
+  writes_done :
       {after : List ℕ} {r : Chain}
       → at.full ≡ false
       → r.full ≡ false
       → Ready room r after
       → ((w : Written) (first : List ℕ) → Holds w at first before → Holds (step w) r first after)
       → Writes step room at before after r
-  writes-done e f ready holds =
+  writes_done e f ready holds =
       record {
         ready = ready;
         stays = λ t. absurd (true≢false (sym t ∙ e));
@@ -43,11 +43,11 @@ module _ {step : Written → Written} {room : ℕ} {at : Chain} {before : List �
         over = λ w first h _ t _. true≢false (sym t ∙ f);
       }
 
-  writes-over :
+  writes_over :
       Ready room at before
       → ((w : Written) (first : List ℕ) → Holds w at first before → length (step w).rows ≤ room → ⊥)
       → Writes step room at before before (filled at)
-  writes-over ready large =
+  writes_over ready large =
       record {
         ready = record { within = ready.within; space = ready.space; limit = ready.limit };
         stays = λ _. refl;
@@ -55,8 +55,8 @@ module _ {step : Written → Written} {room : ℕ} {at : Chain} {before : List �
         over = λ w first h _ _ few. large w first h few;
       }
 
-  pub writes-filled : Ready room at before → at.full ≡ true → Writes step room at before before at
-  writes-filled ready e =
+  pub writes_filled : Ready room at before → at.full ≡ true → Writes step room at before before at
+  writes_filled ready e =
       record {
         ready = ready;
         stays = λ t. t;
@@ -159,9 +159,9 @@ module _ (room : ℕ) (at : Chain) (t : List ℕ) (kind a b : ℕ) (ready : Read
   abbrev this : Row
   this = record { kind = kind; a = a; b = b }
 
-  pub row-full : room < at.rows + 1 → Writes (row_step kind a b) room at t t (filled at)
+  pub row_full : room < at.rows + 1 → Writes (row_step kind a b) room at t t (filled at)
   unfolding and_row
-  row-full h = writes-over ready (λ w first hold few. omega (arith, one_longer w.rows this, hold.rows))
+  row_full h = writes_over ready (λ w first hold few. omega (arith, one_longer w.rows this, hold.rows))
 
   pub row_done :
       at.full ≡ false
@@ -169,7 +169,7 @@ module _ (room : ℕ) (at : Chain) (t : List ℕ) (kind a b : ℕ) (ready : Read
       → Writes (row_step kind a b) room at t (three t at.rows kind a b) (record { rows = at.rows + 1; stands = at.rows; full = false })
   unfolding and_row
   row_done unfilled h =
-      writes-done unfilled refl
+      writes_done unfilled refl
       (record { within = h; space = omega (arith, length_three t at.rows kind a b, ready.space); limit = ready.limit })
       (λ w first hold.
       record {
@@ -180,8 +180,8 @@ module _ (room : ℕ) (at : Chain) (t : List ℕ) (kind a b : ℕ) (ready : Read
 
 -- The clear of one flag.
 module _ (room : ℕ) (at : Chain) (t : List ℕ) (base d k : ℕ) (ready : Ready room at t) where
-  pub own-kept : k ≡ d → Writes (and_clear base d k) room at t t at
-  own-kept e = writes_none ready (λ w. clear-skips base d k w e)
+  pub own_kept : k ≡ d → Writes (and_clear base d k) room at t t at
+  own_kept e = writes_none ready (λ w. clear_skips base d k w e)
 
   abbrev clear : Row
   clear = record { kind = 2; a = base + k; b = 0 }
@@ -201,9 +201,9 @@ module _ (room : ℕ) (at : Chain) (t : List ℕ) (base d k : ℕ) (ready : Read
   unfolding and_clear
   cleared w n = rw (ne_eqb k d n)
 
-  pub clear-full : (k ≡ d → ⊥) → room < at.rows + 2 → Writes (and_clear base d k) room at t t (filled at)
-  clear-full n h =
-      writes-over ready (λ w first hold few.
+  pub clear_full : (k ≡ d → ⊥) → room < at.rows + 2 → Writes (and_clear base d k) room at t t (filled at)
+  clear_full n h =
+      writes_over ready (λ w first hold few.
       omega (
         arith,
         ap (λ (x : Written). length x.rows) (cleared w n),
@@ -217,13 +217,13 @@ module _ (room : ℕ) (at : Chain) (t : List ℕ) (base d k : ℕ) (ready : Read
   length_two : length two_rows ≡ length t
   length_two = simp length-set
 
-  pub clear-done :
+  pub clear_done :
       at.full ≡ false
       → (k ≡ d → ⊥)
       → at.rows + 2 ≤ room
       → Writes (and_clear base d k) room at t two_rows (record { rows = at.rows + 2; stands = at.rows + 1; full = false })
-  clear-done unfilled n h =
-      writes-done unfilled refl
+  clear_done unfilled n h =
+      writes_done unfilled refl
       (record { within = h; space = omega (arith, length_two, ready.space); limit = ready.limit }) holds
     where
       holds :
@@ -258,28 +258,28 @@ clear_grows base d k w = go (eqb k d)
     go false = omega (arith, length-append w.rows more)
 
 pub clears_grow : (base d n : ℕ) → Grows (and_clears base d n)
-clears_grow base d n w = longer w.rows (and_clears base d n w).rows (clears-prefix base d w n)
+clears_grow base d n w = longer w.rows (and_clears base d n w).rows (clears_prefix base d w n)
 
 -- The loop over the values: the clears of those below k are written.
 module _ (base d : ℕ) {room : ℕ} {at : Chain} {before : List ℕ} where
-  pub clears-none : Ready room at before → Writes (and_clears base d 0) room at before before at
+  pub clears_none : Ready room at before → Writes (and_clears base d 0) room at before before at
   unfolding and_clears
-  clears-none ready = writes_none ready (λ w. refl)
+  clears_none ready = writes_none ready (λ w. refl)
 
-  pub clears-more :
+  pub clears_more :
       {a r : Chain} {mid after : List ℕ} (k : ℕ)
       → Writes (and_clears base d k) room at before mid a
       → Writes (and_clear base d k) room a mid after r
       → Writes (and_clears base d (k + 1)) room at before after r
   unfolding and_clears
-  clears-more k x y = rw (add-one k) (writes_then (clear_grows base d k) x y)
+  clears_more k x y = rw (add-one k) (writes_then (clear_grows base d k) x y)
 
-  pub clears-all :
+  pub clears_all :
       {r : Chain} {after : List ℕ} (k n : ℕ)
       → k ≡ n
       → Writes (and_clears base d k) room at before after r
       → Writes (and_clears base d n) room at before after r
-  clears-all k n e x = rw e at x
+  clears_all k n e x = rw e at x
 
 -- the set, then the clears
 pub becomes_both :

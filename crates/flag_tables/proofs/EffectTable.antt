@@ -13,11 +13,11 @@ use Rattle.task.specs.Bounded.{upto}
 use Rattle.task.specs.Table.{Row, row_at, EffectKind, empty_kind, set_kind, clear_kind, both_kind, under_kind, unknown_effect}
 use Rattle.task.specs.Words.{joined, words_of}
 use Rattle.task.specs.Inner.Tables.{words_at}
-use Rattle.task.proofs.Bounded.{length-upto}
+use Rattle.task.proofs.Bounded.{length_upto}
 use Rattle.normal_form.specs.Assembly.{Written}
 use Rattle.finite_domain.specs.Table.{finite_effect_kind}
 use Rattle.translation.specs.Effects.{becomes_rows, effect_rows_by, Effects, and_effect, effects_by}
-use Rattle.translation.proofs.EffectRows.{effects-counted, effect-longer, places_count}
+use Rattle.translation.proofs.EffectRows.{effects_counted, effect_longer, places_count}
 use Rattle.flag_tables.specs.declared.Chain.{Chain}
 use Rattle.flag_tables.specs.Inner.Front.{at_front}
 use Rattle.flag_tables.specs.Inner.Flags.{as_row}
@@ -40,12 +40,12 @@ four_under n e = rw e refl
 
 -- One source row, by its kind.
 module _ (counts firsts memo places : List ℕ) (r : Row) {room : ℕ} {at s : Chain} {before after : List ℕ} where
-  pub writes-becomes :
+  pub writes_becomes :
       r.kind ≡ 5
       → Writes (becomes_step (get_or firsts r.a 0) r.b (get_or counts r.a 0)) room at before after s
       → Writes (source_step counts firsts memo places r) room at before after s
   unfolding kind_step
-  writes-becomes e x = writes_as (λ w. rw (five_becomes r.kind e)) x
+  writes_becomes e x = writes_as (λ w. rw (five_becomes r.kind e)) x
 
   pub writes_both :
       r.kind ≡ 3
@@ -54,21 +54,21 @@ module _ (counts firsts memo places : List ℕ) (r : Row) {room : ℕ} {at s : C
   unfolding kind_step
   writes_both e x = writes_as (λ w. rw (three_both r.kind e)) x
 
-  pub writes-under :
+  pub writes_under :
       r.kind ≡ 4
       → Writes (row_step 4 (get_or memo r.a 0 - 1) (get_or places r.b 0)) room at before after s
       → Writes (source_step counts firsts memo places r) room at before after s
   unfolding kind_step
-  writes-under e x = writes_as (λ w. rw (four_under r.kind e)) x
+  writes_under e x = writes_as (λ w. rw (four_under r.kind e)) x
 
-  pub writes-other :
+  pub writes_other :
       (r.kind ≡ 5 → ⊥)
       → (r.kind ≡ 3 → ⊥)
       → (r.kind ≡ 4 → ⊥)
       → Writes (row_step 0 0 0) room at before after s
       → Writes (source_step counts firsts memo places r) room at before after s
   unfolding kind_step finite_effect_kind
-  writes-other five three four x = writes_as (λ w. go w r.kind five three four) x
+  writes_other five three four x = writes_as (λ w. go w r.kind five three four) x
     where
       go :
           (w : Written) (n : ℕ)
@@ -116,11 +116,11 @@ module _ (cs f effects : List ℕ) (n : ℕ) (counts firsts memo : List ℕ) (te
 
 -- rows only grow
 module _ (cs f : List ℕ) where
-  effects-grow : (g : ℕ → Row) (i n : ℕ) → i ≤ n → length (effects_by cs f (upto i g)).rows ≤ length (effects_by cs f (upto n g)).rows
-  effects-grow g i zero h =
+  effects_grow : (g : ℕ → Row) (i n : ℕ) → i ≤ n → length (effects_by cs f (upto i g)).rows ≤ length (effects_by cs f (upto n g)).rows
+  effects_grow g i zero h =
       let e : i ≡ 0 = omega arith in
       rw e (omega arith)
-  effects-grow g i (suc n) h = go (effects-grow g i n) (dec_le i n)
+  effects_grow g i (suc n) h = go (effects_grow g i n) (dec_le i n)
     where
       go :
           (i ≤ n → length (effects_by cs f (upto i g)).rows ≤ length (effects_by cs f (upto n g)).rows)
@@ -131,8 +131,8 @@ module _ (cs f : List ℕ) where
           (omega (
             arith,
             before l,
-            effect-longer cs f (effects_by cs f (upto n g)) (g n),
-            ap (λ (e : Effects). length e.rows) (effects-counted cs f n g),
+            effect_longer cs f (effects_by cs f (upto n g)) (g n),
+            ap (λ (e : Effects). length e.rows) (effects_counted cs f n g),
           ))
       go before (no m) =
           let e : i ≡ suc n = omega arith in
@@ -160,9 +160,9 @@ pub record Effecting (effects : List ℕ) (n : ℕ) (counts firsts memo places�
 -- what one source row asks, as it is read
 module _ (effects : List ℕ) (n : ℕ) (counts firsts memo places₀ out₀ : List ℕ) (room : ℕ)
     (asked : EffectsReady effects n counts firsts memo places₀ out₀ room) where
-  pub effecting-none : Effecting effects n counts firsts memo places₀ out₀ room places₀ out₀ (record { rows = 0; stands = 0; full = false }) 0
+  pub effecting_none : Effecting effects n counts firsts memo places₀ out₀ room places₀ out₀ (record { rows = 0; stands = 0; full = false }) 0
   unfolding effects_by upto words_of joined
-  effecting-none =
+  effecting_none =
       record {
         bound = omega arith;
         same_places = refl;
@@ -177,8 +177,8 @@ module _ (effects : List ℕ) (n : ℕ) (counts firsts memo places₀ out₀ : L
     same_row : as_row row ≡ row_at effects i
     same_row = ap as_row read
 
-    pub effecting-asks : SourceReady counts firsts memo (length places) (as_row row)
-    effecting-asks =
+    pub effecting_asks : SourceReady counts firsts memo (length places) (as_row row)
+    effecting_asks =
         let s = asked.rows i h in
         let long : i ≤ length places = omega (arith, c.same_places, asked.placed) in
         rw same_row
@@ -216,7 +216,7 @@ module _ (effects : List ℕ) (n : ℕ) (counts firsts memo places₀ out₀ : L
 
         written : effects_by cs f (upto (i + 1) (row_at effects)) ≡ record { rows = next.rows; at = now.at ++ (next.stands ∷ []) }
         unfolding and_effect
-        written = effects-counted cs f i (row_at effects)
+        written = effects_counted cs f i (row_at effects)
 
         further : r.full ≡ false → SoFar (effects_by cs f (upto (i + 1) (row_at effects))) (i + 1) places₀ out₀ (set places i r.stands) out' r
         further q =
@@ -240,7 +240,7 @@ module _ (effects : List ℕ) (n : ℕ) (counts firsts memo places₀ out₀ : L
               arith,
               ap (λ (w : Written). length w.rows) is-next,
               ap (λ (e : Effects). length e.rows) written,
-              effects-grow cs f (row_at effects) (i + 1) n (omega arith),
+              effects_grow cs f (row_at effects) (i + 1) n (omega arith),
             ))
 
       pub effecting-more :
@@ -272,14 +272,14 @@ module _ (effects : List ℕ) (n : ℕ) (counts firsts memo places₀ out₀ : L
             over = too_many cs f t;
           }
 
-  pub effecting-all :
+  pub effecting_all :
       {places out : List ℕ} {at : Chain} {i : ℕ}
       → Effecting effects n counts firsts memo places₀ out₀ room places out at i
       → n ≤ i
       → (cs f : List ℕ)
       → Tells cs f effects n counts firsts memo
       → AllWritten (effects_by cs f (upto n (row_at effects))) room places₀ places out₀ out at
-  effecting-all {i = i} c h cs f t =
+  effecting_all {i = i} c h cs f t =
       let e : i ≡ n = omega (arith, c.bound) in
       let s = c.so_far cs f t in
       rw (sym e)
@@ -302,4 +302,4 @@ pub places_read :
 places_read cs f effects n {places = places} w q i h =
     let e = effects_by cs f (upto n (row_at effects)) in
     ap (λ (x : List ℕ). get_or x i 0) (w.at q)
-    ∙ front_at e.at places i (omega (arith, places_count cs f (upto n (row_at effects)), length-upto n (row_at effects)))
+    ∙ front_at e.at places i (omega (arith, places_count cs f (upto n (row_at effects)), length_upto n (row_at effects)))

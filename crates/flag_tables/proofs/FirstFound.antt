@@ -7,7 +7,7 @@ use mathlib.Core.List.{List, [], ◌∷◌, ◌++◌}
 use lib.ListN.{length, get_or, take, drop, set, length-set}
 use lib.Seq.{get_or-take}
 use Rattle.task.specs.Bounded.{upto}
-use Rattle.task.proofs.Bounded.{length-upto, getD-upto}
+use Rattle.task.proofs.Bounded.{length_upto, getD_upto}
 use Rattle.translation.specs.Flags.{first_flag}
 use Rattle.flag_tables.specs.Inner.Front.{at_front}
 use Rattle.flag_tables.specs.Inner.Flags.{CountsReady, FirstsFound}
@@ -45,56 +45,56 @@ pub record Adding (counts : List ℕ) (v : ℕ) (before now : List ℕ) (sum a :
   pub words : now ≡ at_front (upto a (first_flag counts)) before
 
 module _ (counts : List ℕ) (v : ℕ) (before : List ℕ) (ready : CountsReady counts v before) where
-  pub adding-none : Adding counts v before before 0 0
+  pub adding_none : Adding counts v before before 0 0
   unfolding first_flag upto
-  adding-none = record { bound = omega arith; same = refl; so_far = refl; words = front_none before }
+  adding_none = record { bound = omega arith; same = refl; so_far = refl; words = front_none before }
 
-  pub adding-small : (a : ℕ) → a ≤ v → first_flag counts a ≤ 1024
-  adding-small a h = omega (arith, first_flag_small counts v ready.small a h, ready.limit)
+  pub adding_small : (a : ℕ) → a ≤ v → first_flag counts a ≤ 1024
+  adding_small a h = omega (arith, first_flag_small counts v ready.small a h, ready.limit)
 
-  pub adding-word :
+  pub adding_word :
       (now : List ℕ) (sum a : ℕ)
       → Adding counts v before now sum a
       → set now a sum ≡ at_front (upto (a + 1) (first_flag counts)) before
-  adding-word now sum a c =
+  adding_word now sum a c =
       rw (c.words, c.so_far, upto_more a (first_flag counts))
-      (front_word (upto a (first_flag counts)) before a (first_flag counts a) (length-upto a (first_flag counts))
+      (front_word (upto a (first_flag counts)) before a (first_flag counts a) (length_upto a (first_flag counts))
       (omega (arith, c.bound, ready.space)))
 
-  pub adding-more :
+  pub adding_more :
       (now : List ℕ) (sum a : ℕ)
       → Adding counts v before now sum a
       → a < v
       → Adding counts v before (set now a sum) (sum + get_or counts a 0) (a + 1)
   unfolding first_flag
-  adding-more now sum a c h =
+  adding_more now sum a c h =
       record {
         bound = omega arith;
         same = length-set now a sum ∙ c.same;
         so_far = rw (add-one a, c.so_far) refl;
-        words = adding-word now sum a c;
+        words = adding_word now sum a c;
       }
 
-  pub adding-all :
+  pub adding_all :
       (now : List ℕ) (sum a : ℕ)
       → Adding counts v before now sum a
       → v ≤ a
       → FirstsFound counts v before (set now v sum) sum
-  adding-all now sum a c h =
+  adding_all now sum a c h =
       let e : a ≡ v = omega (arith, c.bound) in
       let all = upto (v + 1) (first_flag counts) in
-      let whole : set now v sum ≡ at_front all before = rw e at (adding-word now sum a c) in
-      let long = length-upto (v + 1) (first_flag counts) in
+      let whole : set now v sum ≡ at_front all before = rw e at (adding_word now sum a c) in
+      let long = length_upto (v + 1) (first_flag counts) in
       let total : sum ≡ first_flag counts v = rw e at c.so_far in
       record {
         count = total;
-        limit = omega (arith, total, adding-small v (omega arith));
+        limit = omega (arith, total, adding_small v (omega arith));
         found =
             record {
               at = λ b k.
                   ap (λ (l : List ℕ). get_or l b 0) whole
                   ∙ front_at all before b (omega (arith, long))
-                  ∙ getD-upto (v + 1) (first_flag counts) b 0 (omega arith);
+                  ∙ getD_upto (v + 1) (first_flag counts) b 0 (omega arith);
             };
         behind = ap (drop (v + 1)) whole ∙ front_dropped all before (v + 1) (omega (arith, long));
       }

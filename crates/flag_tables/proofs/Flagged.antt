@@ -14,7 +14,7 @@ use Rattle.task.specs.Bounded.{upto}
 use Rattle.task.specs.Table.{Row, row_at}
 use Rattle.task.specs.Words.{joined, row_words, words_of}
 use Rattle.task.specs.Inner.Tables.{row_stored, words_at}
-use Rattle.task.proofs.Bounded.{length-upto}
+use Rattle.task.proofs.Bounded.{length_upto}
 use Rattle.task.proofs.Words.{length_words, words_append, rows_read}
 use Rattle.task.proofs.Stores.{length_row_stored}
 use Rattle.translation.specs.Flags.{first_flag, flag}
@@ -44,39 +44,39 @@ pub record Copying (firsts : List ℕ) (leaf kind : ℕ) (words : List ℕ) (n :
   pub front : now ≡ at_front (words_of (rows_over firsts leaf kind words i)) before
 
 module _ (firsts : List ℕ) (leaf kind : ℕ) (words : List ℕ) (n : ℕ) (before : List ℕ) (ready : LeavesReady words n leaf firsts before) where
-  pub copying-none : Copying firsts leaf kind words n before before 0
+  pub copying_none : Copying firsts leaf kind words n before before 0
   unfolding rows_over upto words_of joined
-  copying-none = record { bound = omega arith; same = refl; front = front_none before }
+  copying_none = record { bound = omega arith; same = refl; front = front_none before }
 
   length_over : (i : ℕ) → length (words_of (rows_over firsts leaf kind words i)) ≡ 3 * i
   unfolding rows_over
   length_over i =
       let f : ℕ → Row = λ k. leaf_over firsts leaf kind (row_at words k) in
-      omega (arith, length_words (upto i f), length-upto i f)
+      omega (arith, length_words (upto i f), length_upto i f)
 
-  over-more :
+  over_more :
       (i : ℕ) (r : Row)
       → r ≡ leaf_over firsts leaf kind (row_at words i)
       → words_of (rows_over firsts leaf kind words (i + 1))
       ≡ words_of (rows_over firsts leaf kind words i) ++ (r.kind ∷ r.a ∷ r.b ∷ [])
   unfolding rows_over words_of joined row_words
-  over-more i r e =
+  over_more i r e =
       let f : ℕ → Row = λ k. leaf_over firsts leaf kind (row_at words k) in
       rw (e, upto_more i f) (words_append (upto i f) (f i ∷ []))
 
   -- what one row asks, as it is read
-  pub copying-asks :
+  pub copying_asks :
       (i : ℕ) (w : TableRow) → i < n → w ≡ words_at Table.Effects words i → LeafReady firsts leaf (as_row w)
-  copying-asks i w h read = rw (ap as_row read) (ready.leaves i h)
+  copying_asks i w h read = rw (ap as_row read) (ready.leaves i h)
 
-  pub copying-more :
+  pub copying_more :
       (now : List ℕ) (i : ℕ) (w r : TableRow)
       → Copying firsts leaf kind words n before now i
       → i < n
       → w ≡ words_at Table.Effects words i
       → r ≡ in_words w (leaf_over firsts leaf kind (as_row w))
       → Copying firsts leaf kind words n before (row_stored Table.Effects now i r) (i + 1)
-  copying-more now i w r c h read made =
+  copying_more now i w r c h read made =
       record {
         bound = omega arith;
         same = length_row_stored Table.Effects now i r ∙ c.same;
@@ -84,15 +84,15 @@ module _ (firsts : List ℕ) (leaf kind : ℕ) (words : List ℕ) (n : ℕ) (bef
             ap (λ (t : List ℕ). row_stored Table.Effects t i r) c.front
             ∙ front_row Table.Effects (words_of (rows_over firsts leaf kind words i)) before i r (length_over i)
             (omega (arith, ready.space))
-            ∙ ap (λ (l : List ℕ). at_front l before) (sym (over-more i (as_row r) (ap as_row made ∙ ap (λ (x : TableRow). leaf_over firsts leaf kind (as_row x)) read)));
+            ∙ ap (λ (l : List ℕ). at_front l before) (sym (over_more i (as_row r) (ap as_row made ∙ ap (λ (x : TableRow). leaf_over firsts leaf kind (as_row x)) read)));
       }
 
-  pub copying-all :
+  pub copying_all :
       (now : List ℕ) (i : ℕ)
       → Copying firsts leaf kind words n before now i
       → n ≤ i
       → now ≡ at_front (words_of (rows_over firsts leaf kind words n)) before
-  copying-all now i c h =
+  copying_all now i c h =
       let e : i ≡ n = omega (arith, c.bound) in
       rw e at c.front
 
@@ -108,13 +108,13 @@ map_upto g (suc n) f = map_append g (upto n f) (f n ∷ []) ∙ rw (map_upto g n
 
 -- Over the first flags of v variables, the rows are those of the translated task, whose counts are the first v of those that are lent.
 module _ (counts : List ℕ) (v : ℕ) (firsts : List ℕ) (found : FirstFlags counts v firsts) where
-  over-flagged :
+  over_flagged :
       (leaf kind : ℕ) (r : Row)
       → (r.kind ≡ leaf → r.a < v)
       → leaf_over firsts leaf kind r
       ≡ cond (eqb r.kind leaf) (record { kind = kind; a = flag (take v counts) r.a r.b; b = 0 }) r
   unfolding leaf_over flag
-  over-flagged leaf kind r below = go (eqb r.kind leaf) refl
+  over_flagged leaf kind r below = go (eqb r.kind leaf) refl
     where
       go :
           (b : Bool)
@@ -127,24 +127,24 @@ module _ (counts : List ℕ) (v : ℕ) (firsts : List ℕ) (found : FirstFlags c
           rw (found.at r.a (omega arith), first_flag_lent counts v r.a (omega arith))
 
   module _ (words : List ℕ) (n : ℕ) (before out : List ℕ) where
-    pub formulas-over :
+    pub formulas_over :
         ((i : ℕ) → i < n → (row_at words i).kind ≡ 8 → (row_at words i).a < v)
         → out ≡ at_front (words_of (rows_over firsts 8 2 words n)) before
         → upto n (row_at out) ≡ map (flagged_formula_row (take v counts)) (upto n (row_at words))
     unfolding rows_over flagged_formula_row
-    formulas-over below e =
-        front_read (rows_over firsts 8 2 words n) n out before e (length-upto n (λ i. leaf_over firsts 8 2 (row_at words i)))
+    formulas_over below e =
+        front_read (rows_over firsts 8 2 words n) n out before e (length_upto n (λ i. leaf_over firsts 8 2 (row_at words i)))
         ∙ upto_same n (λ i. leaf_over firsts 8 2 (row_at words i)) (λ i. flagged_formula_row (take v counts) (row_at words i))
-        (λ i h. over-flagged 8 2 (row_at words i) (below i h))
+        (λ i h. over_flagged 8 2 (row_at words i) (below i h))
         ∙ sym (map_upto (flagged_formula_row (take v counts)) n (row_at words))
 
-    pub effects-over :
+    pub effects_over :
         ((i : ℕ) → i < n → (row_at words i).kind ≡ 5 → (row_at words i).a < v)
         → out ≡ at_front (words_of (rows_over firsts 5 1 words n)) before
         → upto n (row_at out) ≡ map (flagged_effect_row (take v counts)) (upto n (row_at words))
     unfolding rows_over flagged_effect_row
-    effects-over below e =
-        front_read (rows_over firsts 5 1 words n) n out before e (length-upto n (λ i. leaf_over firsts 5 1 (row_at words i)))
+    effects_over below e =
+        front_read (rows_over firsts 5 1 words n) n out before e (length_upto n (λ i. leaf_over firsts 5 1 (row_at words i)))
         ∙ upto_same n (λ i. leaf_over firsts 5 1 (row_at words i)) (λ i. flagged_effect_row (take v counts) (row_at words i))
-        (λ i h. over-flagged 5 1 (row_at words i) (below i h))
+        (λ i h. over_flagged 5 1 (row_at words i) (below i h))
         ∙ sym (map_upto (flagged_effect_row (take v counts)) n (row_at words))

@@ -10,7 +10,7 @@ use Rattle.task.specs.Table.{Operator, operator_width, operator_at, with_parts}
 use Rattle.task.specs.Rules.{no_operator}
 use Rattle.task.specs.Words.{joined, operator_row_words, operator_words}
 use Rattle.task.specs.Inner.Stored.{operator_stored}
-use Rattle.task.proofs.Bounded.{length-upto, getD-upto}
+use Rattle.task.proofs.Bounded.{length_upto, getD_upto}
 use Rattle.task.proofs.Words.{length_operator_words, operator_words_append}
 use Rattle.task.proofs.Stores.{length_operator_stored}
 use Rattle.flag_tables.specs.Inner.Front.{at_front}
@@ -26,28 +26,28 @@ pub record Storing (operators preconditions places : List ℕ) (count : ℕ) (be
 
 module _ (operators preconditions places : List ℕ) (count : ℕ) (before : List ℕ)
     (ready : OperatorsReady operators count preconditions places before) where
-  pub storing-none : Storing operators preconditions places count before before 0
+  pub storing_none : Storing operators preconditions places count before before 0
   unfolding operators_over upto operator_words joined
-  storing-none = record { bound = omega arith; same = refl; front = front_none before }
+  storing_none = record { bound = omega arith; same = refl; front = front_none before }
 
   length_over : (o : ℕ) → length (operator_words (operators_over operators preconditions places o)) ≡ operator_width * o
   unfolding operators_over
   length_over o =
       let f = operator_over operators preconditions places in
-      omega (arith, length_operator_words (upto o f), length-upto o f)
+      omega (arith, length_operator_words (upto o f), length_upto o f)
 
-  over-more :
+  over_more :
       (o : ℕ)
       → let r = operator_over operators preconditions places o in
       operator_words (operators_over operators preconditions places (o + 1))
       ≡ operator_words (operators_over operators preconditions places o)
       ++ (r.precondition ∷ r.effect ∷ r.cost ∷ r.percent ∷ [])
   unfolding operators_over operator_words joined operator_row_words
-  over-more o =
+  over_more o =
       let f = operator_over operators preconditions places in
       rw (upto_more o f) (operator_words_append (upto o f) (f o ∷ []))
 
-  pub storing-more :
+  pub storing_more :
       (now after : List ℕ) (o effect : ℕ)
       → Storing operators preconditions places count before now o
       → o < count
@@ -55,7 +55,7 @@ module _ (operators preconditions places : List ℕ) (count : ℕ) (before : Lis
       → after ≡ operator_stored now o (with_parts (operator_at operators o) (get_or preconditions o 0) (get_or places effect 0))
       → Storing operators preconditions places count before after (o + 1)
   unfolding operator_over
-  storing-more now after o effect c h told stored =
+  storing_more now after o effect c h told stored =
       let r : Operator = operator_over operators preconditions places o in
       let made : after ≡ operator_stored now o r = stored ∙ rw told refl in
       record {
@@ -67,15 +67,15 @@ module _ (operators preconditions places : List ℕ) (count : ℕ) (before : Lis
             ∙ front_row Table.Operators (operator_words (operators_over operators preconditions places o)) before o
             (record { first = r.precondition; second = r.effect; third = r.cost; fourth = r.percent })
             (length_over o) (omega (arith, ready.space))
-            ∙ ap (λ (l : List ℕ). at_front l before) (sym (over-more o));
+            ∙ ap (λ (l : List ℕ). at_front l before) (sym (over_more o));
       }
 
-  pub storing-all :
+  pub storing_all :
       (now : List ℕ) (o : ℕ)
       → Storing operators preconditions places count before now o
       → count ≤ o
       → now ≡ at_front (operator_words (operators_over operators preconditions places count)) before
-  storing-all now o c h =
+  storing_all now o c h =
       let e : o ≡ count = omega (arith, c.bound) in
       rw e at c.front
 
@@ -90,7 +90,7 @@ pub operators_translated :
 unfolding operators_over operator_over
 operators_translated operators preconditions places count ps es p q =
     let source = upto count (operator_at operators) in
-    rw (length-upto count (operator_at operators))
+    rw (length_upto count (operator_at operators))
     (upto_same count (operator_over operators preconditions places)
     (λ o. with_parts (get_or source o no_operator) (get_or ps o 0) (get_or es (get_or source o no_operator).effect 0))
-    (λ o h. rw (getD-upto count (operator_at operators) o no_operator h, p o h, q o h)))
+    (λ o h. rw (getD_upto count (operator_at operators) o no_operator h, p o h, q o h)))

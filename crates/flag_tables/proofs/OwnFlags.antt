@@ -7,7 +7,7 @@ use mathlib.Core.List.{List, [], ◌∷◌, ◌++◌, append_assoc, append-nil}
 use lib.ListN.{length, get_or, take, set, length-append, length-set}
 use lib.Seq.{get_or-take, length-take-le}
 use Rattle.task.specs.Bounded.{upto}
-use Rattle.task.proofs.Bounded.{length-upto}
+use Rattle.task.proofs.Bounded.{length_upto}
 use Rattle.translation.specs.Flags.{first_flag, own_flags, flags_below, flags_of}
 use Rattle.translation.proofs.Flags.{first_flag_after}
 use Rattle.flag_tables.specs.Inner.Front.{at_front}
@@ -17,7 +17,7 @@ use Rattle.flag_tables.proofs.FirstFound.{upto_more}
 
 length_own : (n d : ℕ) → length (own_flags n d) ≡ n
 unfolding own_flags
-length_own n d = length-upto n (λ k. flag_bit k d)
+length_own n d = length_upto n (λ k. flag_bit k d)
 
 -- The loop over one variable's values: the flags of those below k are there.
 pub record Owning (n d at : ℕ) (before now : List ℕ) (k : ℕ) : Type 0 where
@@ -26,17 +26,17 @@ pub record Owning (n d at : ℕ) (before now : List ℕ) (k : ℕ) : Type 0 wher
   pub so_far : OwnWritten k d at before now
 
 module _ (n d at : ℕ) (before : List ℕ) (space : at + n ≤ length before) where
-  pub owning-none : Owning n d at before before 0
+  pub owning_none : Owning n d at before before 0
   unfolding own_flags upto
-  owning-none =
+  owning_none =
       record {
         bound = omega arith;
         same = refl;
         so_far = record { behind = λ bytes table l e. e ∙ ap (λ (b : List ℕ). at_front b table) (sym (append-nil bytes)) };
       }
 
-  pub owning-more : (now : List ℕ) (k : ℕ) → Owning n d at before now k → k < n → Owning n d at before (set now (at + k) (flag_bit k d)) (k + 1)
-  owning-more now k c h =
+  pub owning_more : (now : List ℕ) (k : ℕ) → Owning n d at before now k → k < n → Owning n d at before (set now (at + k) (flag_bit k d)) (k + 1)
+  owning_more now k c h =
       record {
         bound = omega arith;
         same = length-set now (at + k) (flag_bit k d) ∙ c.same;
@@ -56,8 +56,8 @@ module _ (n d at : ℕ) (before : List ℕ) (space : at + n ≤ length before) w
           ∙ ap (λ (w : List ℕ). at_front w table)
           (append_assoc bytes (own_flags k d) (flag_bit k d ∷ []) ∙ ap (λ (w : List ℕ). bytes ++ w) (unfold own_flags in sym (upto_more k (λ j. flag_bit j d))))
 
-  pub owning-all : (now : List ℕ) (k : ℕ) → Owning n d at before now k → n ≤ k → OwnWritten n d at before now
-  owning-all now k c h =
+  pub owning_all : (now : List ℕ) (k : ℕ) → Owning n d at before now k → n ≤ k → OwnWritten n d at before now
+  owning_all now k c h =
       let e : k ≡ n = omega (arith, c.bound) in
       rw e at c.so_far
 
@@ -82,16 +82,16 @@ flags_lent counts s v (suc a) h =
     rw (flags_lent counts s v a (omega arith), get_or-take v counts a 0 (omega arith), get_or-take v s a 0 (omega arith))
 
 module _ (counts initial : List ℕ) (v : ℕ) (before : List ℕ) (ready : ValuesReady counts initial v before) where
-  pub flagging-none : Flagging counts initial v before before 0 0
+  pub flagging_none : Flagging counts initial v before before 0 0
   unfolding first_flag flags_below
-  flagging-none = record { bound = omega arith; same = refl; so_far = refl; bytes = front_none before }
+  flagging_none = record { bound = omega arith; same = refl; so_far = refl; bytes = front_none before }
 
   -- there is room for the next variable's flags
-  pub flagging-room :
+  pub flagging_room :
       (now : List ℕ) (at a : ℕ) → Flagging counts initial v before now at a → a < v → at + get_or counts a 0 ≤ length now
-  flagging-room now at a c h = omega (arith, c.so_far, c.same, ready.space, first_flag_after counts a v h)
+  flagging_room now at a c h = omega (arith, c.so_far, c.same, ready.space, first_flag_after counts a v h)
 
-  pub flagging-more :
+  pub flagging_more :
       (now after : List ℕ) (at a : ℕ)
       → Flagging counts initial v before now at a
       → a < v
@@ -99,7 +99,7 @@ module _ (counts initial : List ℕ) (v : ℕ) (before : List ℕ) (ready : Valu
       → OwnWritten (get_or counts a 0) (get_or initial a 0) at now after
       → Flagging counts initial v before after (at + get_or counts a 0) (a + 1)
   unfolding first_flag flags_below
-  flagging-more now after at a c h long own =
+  flagging_more now after at a c h long own =
       record {
         bound = omega arith;
         same = long ∙ c.same;
@@ -107,12 +107,12 @@ module _ (counts initial : List ℕ) (v : ℕ) (before : List ℕ) (ready : Valu
         bytes = rw (add-one a) (own.behind (flags_below counts initial a) before (length_below counts initial a ∙ sym c.so_far) c.bytes);
       }
 
-  pub flagging-all :
+  pub flagging_all :
       (now : List ℕ) (at a : ℕ)
       → Flagging counts initial v before now at a
       → v ≤ a
       → now ≡ at_front (flags_of (take v counts) (take v initial)) before
   unfolding flags_of
-  flagging-all now at a c h =
+  flagging_all now at a c h =
       let e : a ≡ v = omega (arith, c.bound) in
       rw (length-take-le v counts ready.there, flags_lent counts initial v v (omega arith)) (rw e at c.bytes)

@@ -15,8 +15,8 @@ use Rattle.normal_form.specs.Builder.{place, same_row, start}
 use Rattle.normal_form.proofs.Growth.{same_row_itself}
 use Rattle.normal_form.proofs.Place.{same_row_alike}
 use Rattle.formula_builder.specs.Inner.Index.{key_of, head_of, head_word, link_word, Leads, here, onward, Comes, Reached, Trees, Indexed, Searchable, Found, three, appended, Empty, FirstTwo}
-use Rattle.formula_builder.proofs.Found.{row-found, row-none}
-use Rattle.formula_builder.proofs.Stored.{length_three, three-other, three-before, three-at, upto_same, upto_more}
+use Rattle.formula_builder.proofs.Found.{row_found, row_none}
+use Rattle.formula_builder.proofs.Stored.{length_three, three_other, three_before, three_at, upto_same, upto_more}
 
 -- the hash times the heads' number; and a head
 pub hash_small : (most key : ℕ) → 0 < most → key * 2654435769 % 4294967296 * (4 * most) < 4294967296 * (4 * most)
@@ -51,25 +51,25 @@ searchable some limit room few x =
 
 -- a walk in the index stays there, and comes to a head or to a link of one of the n rows
 module _ {most n : ℕ} {t : List ℕ} (x : Trees most n t) (p : ℕ) where
-  leads-low : (w bits : ℕ) → Leads most t p w bits → 3 * most ≤ w → 3 * most ≤ p
-  leads-low w bits (here _ _ e) h = omega arith
-  leads-low w bits (onward _ _ i e l) h = leads-low (link_word most i bits) (bits / 2) l (omega arith)
+  leads_low : (w bits : ℕ) → Leads most t p w bits → 3 * most ≤ w → 3 * most ≤ p
+  leads_low w bits (here _ _ e) h = omega arith
+  leads_low w bits (onward _ _ i e l) h = leads_low (link_word most i bits) (bits / 2) l (omega arith)
 
-  leads-own :
+  leads_own :
       (w bits : ℕ)
       → Leads most t p w bits
       → 3 * most ≤ w
       → (w < 5 * most → w < 3 * most + 2 * n)
       → p < 5 * most
       → p < 3 * most + 2 * n
-  leads-own w bits (here _ _ e) h own k = omega (arith, own (omega arith))
-  leads-own w bits (onward _ _ i e l) h own k =
-      leads-own (link_word most i bits) (bits / 2) l (omega arith) (λ _. omega (arith, x.within w i h e)) k
+  leads_own w bits (here _ _ e) h own k = omega (arith, own (omega arith))
+  leads_own w bits (onward _ _ i e l) h own k =
+      leads_own (link_word most i bits) (bits / 2) l (omega arith) (λ _. omega (arith, x.within w i h e)) k
 
 -- Row r stored behind n rows, and named by word p, where its walk ended.
 module _ (most n : ℕ) (t : List ℕ) (r : Row) (p : ℕ) (few : n < most) (room : 9 * most ≤ length t) (f : Found most t r p) where
-  pub length-appended : length (appended t n r p) ≡ length t
-  length-appended = length-set (three t n r) p (n + 1) ∙ length_three t n r
+  pub length_appended : length (appended t n r p) ≡ length t
+  length_appended = length-set (three t n r) p (n + 1) ∙ length_three t n r
 
   row_kept : (k : ℕ) → k ≤ n → row_at (appended t n r p) k ≡ row_at (three t n r) k
   unfolding row_at
@@ -82,13 +82,13 @@ module _ (most n : ℕ) (t : List ℕ) (r : Row) (p : ℕ) (few : n < most) (roo
       }
 
   pub before : (k : ℕ) → k < n → row_at (appended t n r p) k ≡ row_at t k
-  before k h = row_kept k (omega arith) ∙ three-before t n r k h
+  before k h = row_kept k (omega arith) ∙ three_before t n r k h
 
   at_end : row_at (appended t n r p) n ≡ r
-  at_end = row_kept n (omega arith) ∙ three-at t n r (omega arith)
+  at_end = row_kept n (omega arith) ∙ three_at t n r (omega arith)
 
-  pub appended-rows : upto (n + 1) (row_at (appended t n r p)) ≡ upto n (row_at t) ++ (r ∷ [])
-  appended-rows =
+  pub appended_rows : upto (n + 1) (row_at (appended t n r p)) ≡ upto n (row_at t) ++ (r ∷ [])
+  appended_rows =
       upto_more n (row_at (appended t n r p))
       ∙ rw (upto_same n (row_at (appended t n r p)) (row_at t) before, at_end)
 
@@ -99,17 +99,17 @@ module _ (most n : ℕ) (t : List ℕ) (r : Row) (p : ℕ) (few : n < most) (roo
   pub other : (w : ℕ) → 3 * most ≤ w → (w ≡ p → ⊥) → get_or (appended t n r p) w 0 ≡ get_or t w 0
   other w h d =
       get_or-set_other (three t n r) p w (n + 1) 0 d
-      ∙ three-other t n r w (omega arith) (omega arith) (omega arith)
+      ∙ three_other t n r w (omega arith) (omega arith) (omega arith)
 
   module _ (free : get_or t p 0 ≡ 0) where
     -- a word that named a row names it still
     still : (w i : ℕ) → 3 * most ≤ w → get_or t w 0 ≡ suc i → get_or (appended t n r p) w 0 ≡ suc i
     still w i h e = other w h (λ q. let same : get_or t w 0 ≡ 0 = ap (λ (v : ℕ). get_or t v 0) q ∙ free in omega arith) ∙ e
 
-    leads-still : (q w bits : ℕ) → 3 * most ≤ w → Leads most t q w bits → Leads most (appended t n r p) q w bits
-    leads-still q w bits h (here _ _ e) = here w bits e
-    leads-still q w bits h (onward _ _ i e l) =
-        onward w bits i (still w i h e) (leads-still q (link_word most i bits) (bits / 2) (omega arith) l)
+    leads_still : (q w bits : ℕ) → 3 * most ≤ w → Leads most t q w bits → Leads most (appended t n r p) q w bits
+    leads_still q w bits h (here _ _ e) = here w bits e
+    leads_still q w bits h (onward _ _ i e l) =
+        onward w bits i (still w i h e) (leads_still q (link_word most i bits) (bits / 2) (omega arith) l)
 
     module _ (x : Indexed most n t) where
       its-trees : Trees most (n + 1) (appended t n r p)
@@ -132,7 +132,7 @@ module _ (most n : ℕ) (t : List ℕ) (r : Row) (p : ℕ) (few : n < most) (roo
               → i < j
           later i b j h k e (yes q) =
               let last = sym e ∙ ap (λ (v : ℕ). get_or (appended t n r p) v 0) q ∙ own in
-              let mine = leads-own x.trees p (head_word most r) (key_of r) f.leads (omega arith) (λ z. absurd (omega arith)) (omega arith) in
+              let mine = leads_own x.trees p (head_word most r) (key_of r) f.leads (omega arith) (λ z. absurd (omega arith)) (omega arith) in
               omega (arith, last, mine)
           later i b j h k e (no d) = x.trees.later i b j h k (sym (other (3 * most + 2 * i + b) (omega arith) d) ∙ e)
 
@@ -144,7 +144,7 @@ module _ (most n : ℕ) (t : List ℕ) (r : Row) (p : ℕ) (few : n < most) (roo
               rw (e, at_end)
               (record {
                 word = p;
-                leads = leads-still p (head_word most r) (key_of r) (omega arith) f.leads;
+                leads = leads_still p (head_word most r) (key_of r) (omega arith) f.leads;
                 names = omega (arith, own);
               })
           go (no e) =
@@ -152,10 +152,10 @@ module _ (most n : ℕ) (t : List ℕ) (r : Row) (p : ℕ) (few : n < most) (roo
               rw (before i (omega arith))
               (record {
                 word = old.word;
-                leads = leads-still old.word (head_word most (row_at t i)) (key_of (row_at t i)) (omega arith) old.leads;
+                leads = leads_still old.word (head_word most (row_at t i)) (key_of (row_at t i)) (omega arith) old.leads;
                 names =
                     still old.word i
-                    (leads-low x.trees old.word (head_word most (row_at t i)) (key_of (row_at t i)) old.leads (omega arith))
+                    (leads_low x.trees old.word (head_word most (row_at t i)) (key_of (row_at t i)) old.leads (omega arith))
                     old.names;
               })
 
@@ -177,9 +177,9 @@ module _ {most n : ℕ} {t : List ℕ} (x : Indexed most n t) (some : 0 < most) 
   aside : (w : ℕ) → w < 9 * most → get_or (set t p (k + 1)) w 0 ≡ get_or t w 0
   aside w h = get_or-set_other t p w (k + 1) 0 (omega arith)
 
-  pub row-aside : (i : ℕ) → i < n → row_at (set t p (k + 1)) i ≡ row_at t i
+  pub row_aside : (i : ℕ) → i < n → row_at (set t p (k + 1)) i ≡ row_at t i
   unfolding row_at
-  row-aside i h =
+  row_aside i h =
       λ j.
       record {
         kind = aside (3 * i) (omega arith) j;
@@ -187,44 +187,44 @@ module _ {most n : ℕ} {t : List ℕ} (x : Indexed most n t) (some : 0 < most) 
         b = aside (3 * i + 2) (omega arith) j;
       }
 
-  leads-high : (q w bits : ℕ) → 3 * most ≤ w → w < 9 * most → Leads most t q w bits → q < 9 * most
-  leads-high q w bits l h (here _ _ e) = omega arith
-  leads-high q w bits l h (onward _ _ i e m) =
+  leads_high : (q w bits : ℕ) → 3 * most ≤ w → w < 9 * most → Leads most t q w bits → q < 9 * most
+  leads_high q w bits l h (here _ _ e) = omega arith
+  leads_high q w bits l h (onward _ _ i e m) =
       let below = x.trees.within w i l e in
-      leads-high q (link_word most i bits) (bits / 2) (omega arith) (omega arith) m
+      leads_high q (link_word most i bits) (bits / 2) (omega arith) (omega arith) m
 
-  leads-aside : (q w bits : ℕ) → 3 * most ≤ w → w < 9 * most → Leads most t q w bits → Leads most (set t p (k + 1)) q w bits
-  leads-aside q w bits l h (here _ _ e) = here w bits e
-  leads-aside q w bits l h (onward _ _ i e m) =
+  leads_aside : (q w bits : ℕ) → 3 * most ≤ w → w < 9 * most → Leads most t q w bits → Leads most (set t p (k + 1)) q w bits
+  leads_aside q w bits l h (here _ _ e) = here w bits e
+  leads_aside q w bits l h (onward _ _ i e m) =
       let below = x.trees.within w i l e in
-      onward w bits i (aside w h ∙ e) (leads-aside q (link_word most i bits) (bits / 2) (omega arith) (omega arith) m)
+      onward w bits i (aside w h ∙ e) (leads_aside q (link_word most i bits) (bits / 2) (omega arith) (omega arith) m)
 
   module _ (room : p < length t) (stands : k < n) where
-    aside-reached : (i : ℕ) → i < n → Reached most (set t p (k + 1)) i
-    aside-reached i h =
+    aside_reached : (i : ℕ) → i < n → Reached most (set t p (k + 1)) i
+    aside_reached i h =
         let old = x.reached i h in
         let low = head_small most (key_of (row_at t i)) some in
-        rw (row-aside i h)
+        rw (row_aside i h)
         (record {
           word = old.word;
-          leads = leads-aside old.word (head_word most (row_at t i)) (key_of (row_at t i)) (omega arith) (omega arith) old.leads;
+          leads = leads_aside old.word (head_word most (row_at t i)) (key_of (row_at t i)) (omega arith) (omega arith) old.leads;
           names =
               aside old.word
-              (leads-high old.word (head_word most (row_at t i)) (key_of (row_at t i)) (omega arith) (omega arith) old.leads)
+              (leads_high old.word (head_word most (row_at t i)) (key_of (row_at t i)) (omega arith) (omega arith) old.leads)
               ∙ old.names;
         })
 
-    pub aside-indexed : Indexed most n (set t p (k + 1))
-    aside-indexed =
+    pub aside_indexed : Indexed most n (set t p (k + 1))
+    aside_indexed =
         record {
           trees =
               record {
                 within = λ w i h e. within w i h e (ℕ_discrete w p);
                 later = λ i b j h l e. x.trees.later i b j h l (sym (aside (3 * most + 2 * i + b) (omega arith)) ∙ e);
               };
-          reached = aside-reached;
+          reached = aside_reached;
           apart = λ i j h l e.
-              x.apart i j h l (sym (row-aside i (omega arith)) ∙ e ∙ row-aside j (omega arith));
+              x.apart i j h l (sym (row_aside i (omega arith)) ∙ e ∙ row_aside j (omega arith));
         }
       where
         within : (w i : ℕ) → 3 * most ≤ w → get_or (set t p (k + 1)) w 0 ≡ suc i → Dec (w ≡ p) → i < n
@@ -331,7 +331,7 @@ pub stands_place :
     → row_at t i ≡ r
     → i ≡ place same_row r (upto n (row_at t))
 stands_place {most} {n} {t} x r i below e =
-    row-found r no_row n (row_at t) i below (λ j h. first j h (same_row (row_at t j) r) refl)
+    row_found r no_row n (row_at t) i below (λ j h. first j h (same_row (row_at t j) r) refl)
     (ap (λ (k : Row). same_row k r) e ∙ same_row_itself r)
   where
     first : (j : ℕ) → j < i → (b : Bool) → same_row (row_at t j) r ≡ b → same_row (row_at t j) r ≡ false
@@ -343,8 +343,8 @@ module _ {most n : ℕ} {t : List ℕ} {r : Row} {p : ℕ} (x : Indexed most n t
   pub found_below : (i : ℕ) → get_or t p 0 ≡ suc i → i < n
   found_below i e = x.trees.within p i f.low e
 
-  pub missing-place : get_or t p 0 ≡ 0 → n ≡ place same_row r (upto n (row_at t))
-  missing-place e = row-none r no_row n (row_at t) (λ j h. none j h (same_row (row_at t j) r) refl)
+  pub missing_place : get_or t p 0 ≡ 0 → n ≡ place same_row r (upto n (row_at t))
+  missing_place e = row_none r no_row n (row_at t) (λ j h. none j h (same_row (row_at t j) r) refl)
     where
       none : (j : ℕ) → j < n → (b : Bool) → same_row (row_at t j) r ≡ b → same_row (row_at t j) r ≡ false
       none j h false q = q
@@ -358,8 +358,8 @@ abbrev pub true_row : Row
 true_row = record { kind = 1; a = 0; b = 0 }
 
 module _ {most : ℕ} {t : List ℕ} (e : Empty most t) where
-  pub first-searchable : Searchable most t
-  first-searchable =
+  pub first_searchable : Searchable most t
+  first_searchable =
       let two = e.two in
       searchable (omega arith) e.limit e.room (omega arith) (none_indexed e)
 
@@ -367,14 +367,14 @@ module _ {most : ℕ} {t : List ℕ} (e : Empty most t) where
     few : 0 < most
     few = omega (arith, e.two)
 
-    one-room : 9 * most ≤ length (appended t 0 false_row p)
-    one-room = omega (arith, e.room, length-appended most 0 t false_row p few e.room f)
+    one_room : 9 * most ≤ length (appended t 0 false_row p)
+    one_room = omega (arith, e.room, length_appended most 0 t false_row p few e.room f)
 
-    one-indexed : Indexed most 1 (appended t 0 false_row p)
-    one-indexed = appended-indexed most 0 t false_row p few e.room f (e.blank p) (none_indexed e)
+    one_indexed : Indexed most 1 (appended t 0 false_row p)
+    one_indexed = appended-indexed most 0 t false_row p few e.room f (e.blank p) (none_indexed e)
 
-    pub second-searchable : Searchable most (appended t 0 false_row p)
-    second-searchable = searchable few e.limit one-room few one-indexed
+    pub second_searchable : Searchable most (appended t 0 false_row p)
+    second_searchable = searchable few e.limit one_room few one_indexed
 
     module _ {q : ℕ} (g : Found most (appended t 0 false_row p) true_row q) where
       -- the only row is not the second
@@ -384,7 +384,7 @@ module _ {most : ℕ} {t : List ℕ} (e : Empty most t) where
           go : (s : ℕ) → get_or (appended t 0 false_row p) q 0 ≡ s → s ≡ 0
           go zero d = refl
           go (suc i) d =
-              let first : i ≡ 0 = omega (arith, found_below one-indexed g i d) in
+              let first : i ≡ 0 = omega (arith, found_below one_indexed g i d) in
               let both = sym (at_end most 0 t false_row p few e.room f) ∙ ap (row_at (appended t 0 false_row p)) (sym first) ∙ g.stands i d in
               let same : ◌≡◌ {A = ℕ} 0 1 = ap (λ (r : Row). r.kind) both in
               absurd (omega arith)
@@ -393,12 +393,12 @@ module _ {most : ℕ} {t : List ℕ} (e : Empty most t) where
       first_two =
           record {
             long =
-                length-appended most 1 (appended t 0 false_row p) true_row q e.two one-room g
-                ∙ length-appended most 0 t false_row p few e.room f;
+                length_appended most 1 (appended t 0 false_row p) true_row q e.two one_room g
+                ∙ length_appended most 0 t false_row p few e.room f;
             rows = stand;
-            index = appended-indexed most 1 (appended t 0 false_row p) true_row q e.two one-room g free one-indexed;
+            index = appended-indexed most 1 (appended t 0 false_row p) true_row q e.two one_room g free one_indexed;
             past = λ j h.
-                other most 1 (appended t 0 false_row p) true_row q e.two one-room g j (omega arith) (omega (arith, g.high))
+                other most 1 (appended t 0 false_row p) true_row q e.two one_room g j (omega arith) (omega (arith, g.high))
                 ∙ other most 0 t false_row p few e.room f j (omega arith) (omega (arith, f.high))
                 ∙ e.blank j;
           }
@@ -409,5 +409,5 @@ module _ {most : ℕ} {t : List ℕ} (e : Empty most t) where
           stand : upto 2 (row_at (appended (appended t 0 false_row p) 1 true_row q)) ≡ start.rows
           stand =
               unfold start in
-              (appended-rows most 1 (appended t 0 false_row p) true_row q e.two one-room g
-              ∙ ap (λ (l : List Row). l ++ (true_row ∷ [])) (appended-rows most 0 t false_row p few e.room f ∙ none))
+              (appended_rows most 1 (appended t 0 false_row p) true_row q e.two one_room g
+              ∙ ap (λ (l : List Row). l ++ (true_row ∷ [])) (appended_rows most 0 t false_row p few e.room f ∙ none))

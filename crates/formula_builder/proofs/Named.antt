@@ -12,23 +12,23 @@ use borrow.Author.Tests.{eq-eqb, ne_eqb}
 use Rattle.task.specs.Bounded.{upto}
 use Rattle.task.specs.Table.{Row, row_at}
 use Rattle.task.specs.Rules.{no_row}
-use Rattle.task.proofs.Bounded.{getD-upto}
+use Rattle.task.proofs.Bounded.{getD_upto}
 use Rattle.normal_form.specs.Builder.{St, bind, place, including, same_row, row, twin, variable_row, twin_row}
 use Rattle.normal_form.proofs.Growth.{steady_variable_row, eqb_itself, place_within, prefix_refl}
-use Rattle.normal_form.proofs.Place.{Placed, found, added, placed, place-has, place_none, one_more as each_more, same_row_alike}
+use Rattle.normal_form.proofs.Place.{Placed, found, added, placed, place_has, place_none, one_more as each_more, same_row_alike}
 use Rattle.formula_builder.specs.declared.Frame.{Frame}
 use Rattle.formula_builder.specs.Inner.Held.{store, held, sized, stepped, variable_of, twin_word, TwinsNamed, Ready, Done, Builds}
-use Rattle.formula_builder.proofs.Found.{kept-found, kept-none}
-use Rattle.formula_builder.proofs.Stored.{one_more, one-past, upto_same}
-use Rattle.formula_builder.proofs.Indexing.{row-aside, aside-indexed}
-use Rattle.formula_builder.proofs.Steps.{builds-done, builds-over, builds-from, bind_over, row_stands}
+use Rattle.formula_builder.proofs.Found.{kept_found, kept_none}
+use Rattle.formula_builder.proofs.Stored.{one_more, one_past, upto_same}
+use Rattle.formula_builder.proofs.Indexing.{row_aside, aside_indexed}
+use Rattle.formula_builder.proofs.Steps.{builds_done, builds_over, builds_from, bind_over, row_stands}
 
 -- One number more at the end of a list.
 module _ (u v : ℕ) (l : List ℕ) where
   -- what stood stands where it did
   place_before : place eqb u l < length l → place eqb u (l ++ (v ∷ [])) ≡ place eqb u l
   place_before h =
-      let same = kept-found eqb u l h in
+      let same = kept_found eqb u l h in
       place_within eqb eqb_itself u l (rw same (record { rest = v ∷ []; whole = refl }))
 
   -- what did not stand and is not the new one does not stand
@@ -45,7 +45,7 @@ module _ (u v : ℕ) (l : List ℕ) where
 -- and the new one stands there
 place_last : (v : ℕ) (l : List ℕ) → place eqb v l ≡ length l → place eqb v (l ++ (v ∷ [])) ≡ length l
 place_last v l e =
-    let same = kept-none eqb v l (omega arith) in
+    let same = kept_none eqb v l (omega arith) in
     place_within eqb eqb_itself v l (rw same (prefix_refl (l ++ (v ∷ [])))) ∙ e
 
 module _ (frame : Frame) (n w : ℕ) (table o : List ℕ) (ready : Ready frame (sized n w) (store table o)) (v : ℕ) (low : v < frame.variables) where
@@ -53,40 +53,40 @@ module _ (frame : Frame) (n w : ℕ) (table o : List ℕ) (ready : Ready frame (
   long = length-take-le w o (omega (arith, ready.twins, ready.originals))
 
   -- a twin that stands
-  pub twin-known :
+  pub twin_known :
       0 < get_or table (twin_word frame v) 0
       → Builds (twin_row frame.variables v) frame (sized n w) (store table o) (store table o)
       (stepped n w (get_or table (twin_word frame v) 0 - 1))
   unfolding twin_row bind twin held variable_row
-  twin-known h =
+  twin_known h =
       let r = get_or table (twin_word frame v) 0 - 1 in
       let e : get_or table (twin_word frame v) 0 ≡ suc r = omega arith in
       let x = ready.rows in
       let named = ready.named.stands v r low e in
       let below = x.index.trees.within (twin_word frame v) r (omega arith) e in
       let l = take w o in
-      let same : including eqb v l ≡ l = kept-found eqb v l (omega (arith, long, named.0)) in
+      let same : including eqb v l ≡ l = kept_found eqb v l (omega (arith, long, named.0)) in
       rw (ne_eqb r 65535 (omega (arith, below, x.within, x.limit)))
-      (builds-from
+      (builds_from
       (λ j. variable_row (frame.variables + place eqb v l) (record { rows = upto n (row_at table); twins = same j }))
       (omega arith)
       (row_stands frame (sized n w) table o ready (variable_of (frame.variables + place eqb v l)) r below named.1))
 
   -- A twin that is new.
   module _ (none : get_or table (twin_word frame v) 0 ≡ 0) where
-    its-place : place eqb v (take w o) ≡ w
-    its-place = ready.named.missing v low none
+    its_place : place eqb v (take w o) ≡ w
+    its_place = ready.named.missing v low none
 
     met : including eqb v (take w o) ≡ take w o ++ (v ∷ [])
-    met = kept-none eqb v (take w o) (omega (arith, long, its-place))
+    met = kept_none eqb v (take w o) (omega (arith, long, its_place))
 
-    pub twin-full :
+    pub twin_full :
         w ≡ frame.twins
         → Builds (twin_row frame.variables v) frame (sized n w) (store table o) (store table o) (stepped n w 65535)
     unfolding twin_row twin held
-    twin-full full =
+    twin_full full =
         let l = take w o in
-        builds-over refl ready
+        builds_over refl ready
         (bind_over (twin v) (λ k. variable_row (frame.variables + k)) frame (held (sized n w) (store table o))
         (λ x. steady_variable_row (frame.variables + x))
         (λ x. omega (arith, x.twins, ap (λ (x : List ℕ). length x) met, length-append l (v ∷ []), long)))
@@ -99,11 +99,11 @@ module _ (frame : Frame) (n w : ℕ) (table o : List ℕ) (ready : Ready frame (
           → Builds (twin_row frame.variables v) frame (sized n w) (store table o) (store after o) (stepped m w 65535)
       unfolding twin_row bind twin held variable_row row
       twin-over e =
-          builds-over refl (b.still (eq-eqb k 65535 e))
+          builds_over refl (b.still (eq-eqb k 65535 e))
           (λ x.
           b.over (eq-eqb k 65535 e)
           (record {
-            rows = rw its-place at x.rows;
+            rows = rw its_place at x.rows;
             twins = omega (arith, long, ready.twins);
           }))
 
@@ -132,18 +132,18 @@ module _ (frame : Frame) (n w : ℕ) (table o : List ℕ) (ready : Ready frame (
         unfolding held variable_row row
         place-put = put.value
 
-        its-row : row_at after k ≡ variable_of (frame.variables + w)
-        its-row =
+        its_row : row_at after k ≡ variable_of (frame.variables + w)
+        its_row =
             let r = variable_of (frame.variables + w) in
-            sym (getD-upto m (row_at after) k no_row put.below)
+            sym (getD_upto m (row_at after) k no_row put.below)
             ∙ ap (λ (l : List Row). get_or l k no_row) (sym rows-put)
             ∙ ap (λ (i : ℕ). get_or (including same_row r (upto n (row_at table))) i no_row) (sym place-put)
-            ∙ place-has same_row r (λ y. same_row_alike y r) no_row (upto n (row_at table))
+            ∙ place_has same_row r (λ y. same_row_alike y r) no_row (upto n (row_at table))
 
         row-still : (i : ℕ) → i < m → row_at rows' i ≡ row_at after i
         row-still =
             let x = put.ready.rows in
-            row-aside x.index x.some x.within (twin_word frame v) k (omega arith)
+            row_aside x.index x.some x.within (twin_word frame v) k (omega arith)
 
         word-still : (u : ℕ) → (u ≡ v → ⊥) → get_or rows' (twin_word frame u) 0 ≡ get_or after (twin_word frame u) 0
         word-still u h = get_or-set_other after (twin_word frame v) (twin_word frame u) (k + 1) 0 (omega arith)
@@ -162,8 +162,8 @@ module _ (frame : Frame) (n w : ℕ) (table o : List ℕ) (ready : Ready frame (
         named-own r e =
             let its : r ≡ k = omega (arith, word-own) in
             let last : place eqb v (take (w + 1) originals') ≡ w =
-            ap (place eqb v) twins-now ∙ place_last v (take w o) (its-place ∙ sym long) ∙ long in
-            rw (last, its) (omega arith, row-still k put.below ∙ its-row)
+            ap (place eqb v) twins-now ∙ place_last v (take w o) (its_place ∙ sym long) ∙ long in
+            rw (last, its) (omega arith, row-still k put.below ∙ its_row)
 
         named_other :
             (u r : ℕ)
@@ -226,13 +226,13 @@ module _ (frame : Frame) (n w : ℕ) (table o : List ℕ) (ready : Ready frame (
                     limit = r.limit;
                     room = omega (arith, r.room, length-set after (twin_word frame v) (k + 1));
                     index =
-                        aside-indexed r.index r.some r.within (twin_word frame v) k (omega arith) word_room put.below;
+                        aside_indexed r.index r.some r.within (twin_word frame v) k (omega arith) word_room put.below;
                   };
               two = x.two;
               twins = omega (arith, ready.twins, room);
               originals = omega (arith, length-set o w v, ready.originals);
               variables = x.variables;
-              past_twins = one-past o w v ready.past_twins;
+              past_twins = one_past o w v ready.past_twins;
               named = named_now;
             }
 
@@ -242,15 +242,15 @@ module _ (frame : Frame) (n w : ℕ) (table o : List ℕ) (ready : Ready frame (
             (stepped m (w + 1) k)
         unfolding twin_row bind twin held variable_row row
         twin-put =
-            let back = its-place in
+            let back = its_place in
             let stand : upto m (row_at after) ≡ upto m (row_at rows') = sym (upto_same m (row_at rows') (row_at after) row-still) in
-            builds-done (ne_eqb k 65535 fits)
+            builds_done (ne_eqb k 65535 fits)
             (record {
               value =
-                  ap (λ (x : ℕ). place same_row (variable_of (frame.variables + x)) (upto n (row_at table))) its-place ∙ place-put;
+                  ap (λ (x : ℕ). place same_row (variable_of (frame.variables + x)) (upto n (row_at table))) its_place ∙ place-put;
               state =
                   let whole : including same_row (variable_of (frame.variables + place eqb v (take w o))) (upto n (row_at table)) ≡ upto m (row_at rows') =
-                  ap (λ (x : ℕ). including same_row (variable_of (frame.variables + x)) (upto n (row_at table))) its-place ∙ rows-put ∙ stand in
+                  ap (λ (x : ℕ). including same_row (variable_of (frame.variables + x)) (upto n (row_at table))) its_place ∙ rows-put ∙ stand in
                   let more : including eqb v (take w o) ≡ take (w + 1) originals' = met ∙ sym twins-now in
                   λ j. record { rows = whole j; twins = more j };
               ready = ready-now;

@@ -8,7 +8,7 @@ use lib.ListN.{length, get_or, take, length-append}
 use lib.Dec.{eqb}
 use Rattle.task.specs.Bounded.{upto}
 use Rattle.task.specs.Table.{Row, row_at}
-use Rattle.task.proofs.Bounded.{length-upto}
+use Rattle.task.proofs.Bounded.{length_upto}
 use Rattle.normal_form.specs.Builder.{St, Got, Build, give, bind, place, including, same_row, row, Polarity, plain, negated, image_of_false, image_of_true, join_kind, choice, join_as, join}
 use Rattle.normal_form.specs.Growth.{Prefix, Grows, Steady}
 use borrow.Author.Tests.{eqb-true, eqb-false, eq-eqb, ne_eqb}
@@ -17,32 +17,32 @@ use Rattle.formula_builder.specs.declared.Size.{Size}
 use Rattle.formula_builder.specs.declared.Step.{Step}
 use Rattle.formula_builder.specs.Inner.Index.{Searchable, Found, appended, Put, stood, no_room, behind, rows_after}
 use Rattle.formula_builder.specs.Inner.Held.{Store, store, held, size_of, sized, stepped, done_step, RowsReady, twin_word, Ready, Within, Done, Builds}
-use Rattle.formula_builder.proofs.Found.{kept-found, kept-none}
-use Rattle.formula_builder.proofs.Indexing.{searchable, length-appended, before, other, appended-rows, appended-indexed, stands_place, found_below, missing-place}
+use Rattle.formula_builder.proofs.Found.{kept_found, kept_none}
+use Rattle.formula_builder.proofs.Indexing.{searchable, length_appended, before, other, appended_rows, appended-indexed, stands_place, found_below, missing_place}
 
 abbrev pub full_step : Size → Step
 full_step at = record { rows = at.rows; twins = at.twins; row = 65535; full = true }
 
 -- Done, or over, is all that there is to a step.
 module _ {m : Build ℕ} {frame : Frame} {at : Size} {before after : Store} {r : Step} where
-  pub builds-done : r.full ≡ false → Done m frame at before after r → Builds m frame at before after r
-  builds-done e d = record { done = λ _. d; over = λ f. absurd (true≢false (sym f ∙ e)); still = λ _. d.ready }
+  pub builds_done : r.full ≡ false → Done m frame at before after r → Builds m frame at before after r
+  builds_done e d = record { done = λ _. d; over = λ f. absurd (true≢false (sym f ∙ e)); still = λ _. d.ready }
 
-  pub builds-over :
+  pub builds_over :
       r.full ≡ true
       → Ready frame (size_of r) after
       → (Within frame (m (held at before)).st → ⊥)
       → Builds m frame at before after r
-  builds-over e ready d = record { done = λ f. absurd (true≢false (sym e ∙ f)); over = λ _. d; still = λ _. ready }
+  builds_over e ready d = record { done = λ f. absurd (true≢false (sym e ∙ f)); over = λ _. d; still = λ _. ready }
 
   -- a step that comes to the same as another one from what stands
-  pub builds-from :
+  pub builds_from :
       {m' : Build ℕ} {at' : Size} {before' : Store}
       → m (held at before) ≡ m' (held at' before')
       → at.rows ≤ at'.rows
       → Builds m' frame at' before' after r
       → Builds m frame at before after r
-  builds-from same grew b =
+  builds_from same grew b =
       record {
         done = λ e.
             let d = b.done e in
@@ -88,15 +88,15 @@ bind_over m f frame s steady over w =
 
 module _ {m : Build ℕ} {frame : Frame} {at : Size} {before mid after : Store} {l r : Step} where
   -- the first is done: the second goes on
-  pub builds-bind :
+  pub builds_bind :
       (f : ℕ → Build ℕ)
       → Builds m frame at before mid l
       → l.full ≡ false
       → Builds (f l.row) frame (size_of l) mid after r
       → Builds (bind m f) frame at before after r
-  builds-bind f b e c =
+  builds_bind f b e c =
       let d = b.done e in
-      builds-from (bind_done f d) d.grew c
+      builds_from (bind_done f d) d.grew c
 
 -- there was no room for the first
 pub builds_stop :
@@ -106,7 +106,7 @@ pub builds_stop :
     → l.full ≡ true
     → Builds (bind m f) frame at before after l
 builds_stop {m} {frame} {at} {before} f steady b e =
-    builds-over e (b.still e) (bind_over m f frame (held at before) steady (b.over e))
+    builds_over e (b.still e) (bind_over m f frame (held at before) steady (b.over e))
 
 pub rows_searchable : {most stand : ℕ} {table : List ℕ} → RowsReady most stand table → Searchable most table
 rows_searchable ready = searchable ready.some ready.limit ready.room ready.within ready.index
@@ -122,8 +122,8 @@ row_stands frame at table o ready r i h e =
     let l = upto at.rows (row_at table) in
     let its = stands_place ready.rows.index r i h e in
     let found : including same_row r l ≡ l =
-    kept-found same_row r l (omega (arith, length-upto at.rows (row_at table), h, its)) in
-    builds-done refl
+    kept_found same_row r l (omega (arith, length_upto at.rows (row_at table), h, its)) in
+    builds_done refl
     (record {
       value = sym its;
       state = λ j. record { rows = found j; twins = take at.twins o };
@@ -135,20 +135,20 @@ row_stands frame at table o ready r i h e =
 -- A row: p is the word where the walk for it ends.
 module _ (frame : Frame) (at : Size) (table o : List ℕ) (ready : Ready frame at (store table o)) (r : Row) (p : ℕ) (f : Found frame.rows table r p) where
   module _ (free : get_or table p 0 ≡ 0) where
-    its-place : at.rows ≡ place same_row r (upto at.rows (row_at table))
-    its-place = missing-place ready.rows.index f free
+    its_place : at.rows ≡ place same_row r (upto at.rows (row_at table))
+    its_place = missing_place ready.rows.index f free
 
     added : including same_row r (upto at.rows (row_at table)) ≡ upto at.rows (row_at table) ++ (r ∷ [])
     added =
-        kept-none same_row r (upto at.rows (row_at table)) (omega (arith, length-upto at.rows (row_at table), its-place))
+        kept_none same_row r (upto at.rows (row_at table)) (omega (arith, length_upto at.rows (row_at table), its_place))
 
-    pub row-full : at.rows ≡ frame.rows → Builds (row r) frame at (store table o) (store table o) (full_step at)
+    pub row_full : at.rows ≡ frame.rows → Builds (row r) frame at (store table o) (store table o) (full_step at)
     unfolding row held
-    row-full full =
+    row_full full =
         let l = upto at.rows (row_at table) in
-        builds-over refl ready (λ w.
+        builds_over refl ready (λ w.
         omega
-        (arith, w.rows, ap (λ (x : List Row). length x) added, length-append l (r ∷ []), length-upto at.rows (row_at table)))
+        (arith, w.rows, ap (λ (x : List Row). length x) added, length-append l (r ∷ []), length_upto at.rows (row_at table)))
 
     pub row_appended :
         (at.rows ≡ frame.rows → ⊥)
@@ -159,14 +159,14 @@ module _ (frame : Frame) (at : Size) (table o : List ℕ) (ready : Ready frame a
         let l = upto at.rows (row_at table) in
         let x = ready.rows in
         let few : at.rows < frame.rows = omega arith in
-        let long = length-appended frame.rows at.rows table r p few x.room f in
+        let long = length_appended frame.rows at.rows table r p few x.room f in
         let word : (v : ℕ) → get_or (appended table at.rows r p) (twin_word frame v) 0 ≡ get_or table (twin_word frame v) 0 =
         λ v. other frame.rows at.rows table r p few x.room f (twin_word frame v) (omega arith) (omega (arith, f.high)) in
         let whole : including same_row r l ≡ upto (at.rows + 1) (row_at (appended table at.rows r p)) =
-        added ∙ sym (appended-rows frame.rows at.rows table r p few x.room f) in
-        builds-done refl
+        added ∙ sym (appended_rows frame.rows at.rows table r p few x.room f) in
+        builds_done refl
         (record {
-          value = sym its-place;
+          value = sym its_place;
           state = λ j. record { rows = whole j; twins = take at.twins o };
           ready =
               record {
@@ -206,44 +206,44 @@ module _ (frame : Frame) (at : Size) (table o : List ℕ) (ready : Ready frame a
   put_full (stood p f e same) last =
       let x = ready.rows in
       absurd (omega (arith, found_below x.index f k e, x.within, x.limit))
-  put_full (no_room p f free all same _) last = rw same (row-full frame at table o ready r p f free all)
+  put_full (no_room p f free all same _) last = rw same (row_full frame at table o ready r p f free all)
   put_full (behind p f free some same its) last =
       let x = ready.rows in
       absurd (omega (arith, x.within, x.limit))
 
-  pub put-done :
+  pub put_done :
       Put frame.rows at.rows table r after k
       → (k ≡ 65535 → ⊥)
       → Builds (row r) frame at (store table o) (store after o)
       (record { rows = rows_after at.rows k; twins = at.twins; row = k; full = false })
-  put-done (stood p f e same) room =
+  put_done (stood p f e same) room =
       rw (same, ne_eqb k at.rows (λ h. omega (arith, found_below ready.rows.index f k e)))
       (row_stands frame at table o ready r k (found_below ready.rows.index f k e) (f.stands k e))
-  put-done (no_room p f free all same its) room = absurd (room its)
-  put-done (behind p f free some same its) room =
+  put_done (no_room p f free all same its) room = absurd (room its)
+  put_done (behind p f free some same its) room =
       rw (same, its, eq-eqb at.rows at.rows refl) (row_appended frame at table o ready r p f free some)
 
 -- The same, with the count that the code has set.
 module _ (frame : Frame) (n w : ℕ) (table o : List ℕ) (ready : Ready frame (sized n w) (store table o)) (r : Row) (after : List ℕ) (k : ℕ) where
-  put-counted :
+  put_counted :
       Put frame.rows n table r after k
       → (b : Bool)
       → eqb k 65535 ≡ b
       → Builds (row r) frame (sized n w) (store table o) (store after o) (stepped (rows_after n k) w k)
-  put-counted put true t =
+  put_counted put true t =
       let x = ready.rows in
       let e : k ≡ 65535 = eqb-true k 65535 t in
       rw (e, ne_eqb 65535 n (λ h. omega (arith, x.within, x.limit)))
       (put_full frame (sized n w) table o ready r after k put e)
-  put-counted put false t =
-      rw t (put-done frame (sized n w) table o ready r after k put (eqb-false k 65535 t))
+  put_counted put false t =
+      rw t (put_done frame (sized n w) table o ready r after k put (eqb-false k 65535 t))
 
   pub row_put :
       (most : ℕ)
       → frame.rows ≡ most
       → Put most n table r after k
       → Builds (row r) frame (sized n w) (store table o) (store after o) (stepped (rows_after n k) w k)
-  row_put most same put = put-counted (rw (sym same) at put) (eqb k 65535) refl
+  row_put most same put = put_counted (rw (sym same) at put) (eqb k 65535) refl
 
 -- a row that stands is answered
 pub builds_stands :
@@ -253,33 +253,33 @@ pub builds_stands :
     → Builds (give x) frame (sized n w) s s (stepped n w x)
 unfolding give
 builds_stands x ready h =
-    builds-done (ne_eqb x 65535 (λ e. omega (arith, ready.rows.within, ready.rows.limit)))
+    builds_done (ne_eqb x 65535 (λ e. omega (arith, ready.rows.within, ready.rows.limit)))
     (record { value = refl; state = refl; ready = ready; below = h; grew = omega arith })
 
 -- How a join comes out.
 module _ (p : Polarity) (a b : ℕ) where
-  pub join-left-false : a ≡ image_of_false p → join p a b ≡ give (image_of_false p)
+  pub join_left_false : a ≡ image_of_false p → join p a b ≡ give (image_of_false p)
   unfolding join choice join_as
-  join-left-false e = rw (eq-eqb a (image_of_false p) e)
+  join_left_false e = rw (eq-eqb a (image_of_false p) e)
 
-  pub join-right-false : (a ≡ image_of_false p → ⊥) → b ≡ image_of_false p → join p a b ≡ give (image_of_false p)
+  pub join_right_false : (a ≡ image_of_false p → ⊥) → b ≡ image_of_false p → join p a b ≡ give (image_of_false p)
   unfolding join choice join_as
-  join-right-false h e = rw (ne_eqb a (image_of_false p) h, eq-eqb b (image_of_false p) e)
+  join_right_false h e = rw (ne_eqb a (image_of_false p) h, eq-eqb b (image_of_false p) e)
 
   module _ (h : a ≡ image_of_false p → ⊥) (g : b ≡ image_of_false p → ⊥) where
-    pub join-left-true : a ≡ image_of_true p → join p a b ≡ give b
+    pub join_left_true : a ≡ image_of_true p → join p a b ≡ give b
     unfolding join choice join_as
-    join-left-true e = rw (ne_eqb a (image_of_false p) h, ne_eqb b (image_of_false p) g, eq-eqb a (image_of_true p) e)
+    join_left_true e = rw (ne_eqb a (image_of_false p) h, ne_eqb b (image_of_false p) g, eq-eqb a (image_of_true p) e)
 
-    pub join-right-true : (a ≡ image_of_true p → ⊥) → b ≡ image_of_true p → join p a b ≡ give a
+    pub join_right_true : (a ≡ image_of_true p → ⊥) → b ≡ image_of_true p → join p a b ≡ give a
     unfolding join choice join_as
-    join-right-true k e =
+    join_right_true k e =
         rw (ne_eqb a (image_of_false p) h, ne_eqb b (image_of_false p) g, ne_eqb a (image_of_true p) k, eq-eqb b (image_of_true p) e)
 
-    pub join-fresh :
+    pub join_fresh :
         (a ≡ image_of_true p → ⊥) → (b ≡ image_of_true p → ⊥) → join p a b ≡ row (record { kind = join_kind p; a = a; b = b })
     unfolding join choice join_as
-    join-fresh k i =
+    join_fresh k i =
         rw (ne_eqb a (image_of_false p) h, ne_eqb b (image_of_false p) g, ne_eqb a (image_of_true p) k, ne_eqb b (image_of_true p) i)
 
 pub falsity_small : (p : Polarity) → image_of_false p < 2
@@ -292,4 +292,4 @@ pub builds_as :
     → m ≡ m'
     → Builds m' frame at before after r
     → Builds m frame at before after r
-builds_as {at = at} {before = before} e b = builds-from (ap (λ (m : Build ℕ). m (held at before)) e) (omega arith) b
+builds_as {at = at} {before = before} e b = builds_from (ap (λ (m : Build ℕ). m (held at before)) e) (omega arith) b

@@ -24,29 +24,29 @@ module _ (t : List ℕ) (n : ℕ) (r : Row) where
   pub length_three : length (three t n r) ≡ length t
   length_three = simp length-set
 
-  pub three-other :
+  pub three_other :
       (j : ℕ) → (j ≡ 3 * n → ⊥) → (j ≡ 3 * n + 1 → ⊥) → (j ≡ 3 * n + 2 → ⊥) → get_or (three t n r) j 0 ≡ get_or t j 0
-  three-other j p q s =
+  three_other j p q s =
       let one = set t (3 * n) r.kind in
       let two = set one (3 * n + 1) r.a in
       get_or-set_other two (3 * n + 2) j r.b 0 s
       ∙ get_or-set_other one (3 * n + 1) j r.a 0 q
       ∙ get_or-set_other t (3 * n) j r.kind 0 p
 
-  pub three-before : (k : ℕ) → k < n → row_at (three t n r) k ≡ row_at t k
+  pub three_before : (k : ℕ) → k < n → row_at (three t n r) k ≡ row_at t k
   unfolding row_at
-  three-before k h =
+  three_before k h =
       λ i.
       record {
-        kind = three-other (3 * k) (omega arith) (omega arith) (omega arith) i;
-        a = three-other (3 * k + 1) (omega arith) (omega arith) (omega arith) i;
-        b = three-other (3 * k + 2) (omega arith) (omega arith) (omega arith) i;
+        kind = three_other (3 * k) (omega arith) (omega arith) (omega arith) i;
+        a = three_other (3 * k + 1) (omega arith) (omega arith) (omega arith) i;
+        b = three_other (3 * k + 2) (omega arith) (omega arith) (omega arith) i;
       }
 
   module _ (room : 3 * n + 3 ≤ length t) where
-    pub three-at : row_at (three t n r) n ≡ r
+    pub three_at : row_at (three t n r) n ≡ r
     unfolding row_at
-    three-at =
+    three_at =
         let one = set t (3 * n) r.kind in
         let two = set one (3 * n + 1) r.a in
         let kind : get_or (three t n r) (3 * n) 0 ≡ r.kind =
@@ -66,5 +66,5 @@ module _ (o : List ℕ) (w v : ℕ) where
   pub one_more : w < length o → take (w + 1) (set o w v) ≡ take w o ++ (v ∷ [])
   one_more h = rw (add-one w) (take-suc-set o w v h)
 
-  pub one-past : ((j : ℕ) → w ≤ j → get_or o j 0 ≡ 0) → (j : ℕ) → w + 1 ≤ j → get_or (set o w v) j 0 ≡ 0
-  one-past zeros j h = get_or-set_other o w j v 0 (omega arith) ∙ zeros j (omega arith)
+  pub one_past : ((j : ℕ) → w ≤ j → get_or o j 0 ≡ 0) → (j : ℕ) → w + 1 ≤ j → get_or (set o w v) j 0 ≡ 0
+  one_past zeros j h = get_or-set_other o w j v 0 (omega arith) ∙ zeros j (omega arith)

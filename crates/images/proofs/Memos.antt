@@ -11,7 +11,7 @@ use borrow.Author.Tests.{ne_eqb}
 use lib.Seq.{get_or-set_same, get_or-set_other}
 use Rattle.task.specs.Table.{row_at}
 use Rattle.task.specs.Semantics.{Formula}
-use Rattle.task.proofs.Bounded.{length-upto}
+use Rattle.task.proofs.Bounded.{length_upto}
 use Rattle.normal_form.specs.Builder.{St, Got, Build, bind, join, pair, Polarity, plain, negated}
 use Rattle.normal_form.specs.Growth.{Grows, Steady}
 use Rattle.normal_form.proofs.Growth.{grows_refl, steady_bind, steady_join, steady_pair}
@@ -22,7 +22,7 @@ use Rattle.formula_builder.specs.declared.Frame.{Frame}
 use Rattle.formula_builder.specs.declared.Size.{Size}
 use Rattle.formula_builder.specs.declared.Step.{Step}
 use Rattle.formula_builder.specs.Inner.Held.{Store, held, size_of, side, stepped, Done, Builds}
-use Rattle.formula_builder.proofs.Steps.{builds-done, builds_as, builds-bind, builds_stop, prefix_length}
+use Rattle.formula_builder.proofs.Steps.{builds_done, builds_as, builds_bind, builds_stop, prefix_length}
 use Rattle.images.specs.Inner.Images.{becoming, tree, image_at, pair_at, memo_place, Known, Memo, Asks, AsksBuilt, Images}
 
 -- what a formula becomes is steady, whichever it is
@@ -88,7 +88,7 @@ done_known {m} {at = at} {before = before} {after = after} {r = r} steady d =
     let stays : Grows (m s).st t = rw d.state (grows_refl t) in
     record {
       again = steady.again s t stays ∙ rw d.value;
-      below = rw (length-upto r.rows (row_at after.table)) d.below;
+      below = rw (length_upto r.rows (row_at after.table)) d.below;
     }
 
 -- two places of the memo are the same only for the same row and polarity
@@ -184,15 +184,15 @@ memo_copied frame formulas scratch s at copied known words =
     }
 
 module _ {m : Build ℕ} {frame : Frame} {formulas : List ℕ} {at : Size} {before after : Store} {scratch scratch' : List ℕ} {r : Step} where
-  pub images-as :
+  pub images_as :
       {m' : Build ℕ}
       → m ≡ m'
       → Images m' frame formulas at before after scratch scratch' r
       → Images m frame formulas at before after scratch scratch' r
-  images-as e x = record { builds = builds_as e x.builds; memo = x.memo; rest = x.rest }
+  images_as e x = record { builds = builds_as e x.builds; memo = x.memo; rest = x.rest }
 
   -- the next step finds all that it asks
-  pub asks-next :
+  pub asks_next :
       {i : ℕ} (j : ℕ)
       → Asks frame formulas at before scratch i
       → Images m frame formulas at before after scratch scratch' r
@@ -200,7 +200,7 @@ module _ {m : Build ℕ} {frame : Frame} {formulas : List ℕ} {at : Size} {befo
       → length scratch' ≡ length scratch
       → j < frame.formulas
       → Asks frame formulas (size_of r) after scratch' j
-  asks-next j a x e long h =
+  asks_next j a x e long h =
       record {
         source =
             record {
@@ -233,7 +233,7 @@ images_bind :
     → Images (bind m f) frame formulas at before after s1 s3 r
 images_bind f x e y =
     record {
-      builds = builds-bind f x.builds e y.builds;
+      builds = builds_bind f x.builds e y.builds;
       memo = y.memo;
       rest = λ j h. y.rest j h ∙ x.rest j h;
     }
@@ -259,17 +259,17 @@ pub record Joins (p : Polarity) (m left right : Build ℕ) : Type 0 where
 
 module _ {p : Polarity} {m left right : Build ℕ} {frame : Frame} {formulas : List ℕ} {at : Size} {before mid : Store} {s1 s2 : List ℕ} {l : Step}
     (j : Joins p m left right) (x : Images left frame formulas at before mid s1 s2 l) where
-  pub left-full : l.full ≡ true → Images m frame formulas at before mid s1 s2 l
+  pub left_full : l.full ≡ true → Images m frame formulas at before mid s1 s2 l
   unfolding pair
-  left-full e =
-      images-as j.is
+  left_full e =
+      images_as j.is
       (images_stop (λ a. bind right (λ b. join p a b)) (λ a. steady_bind j.steady (λ b. steady_join p a b)) x e)
 
   module _ {after : Store} {s3 : List ℕ} {r : Step} (e : l.full ≡ false) (y : Images right frame formulas (size_of l) mid after s2 s3 r) where
-    pub right-full : r.full ≡ true → Images m frame formulas at before after s1 s3 r
+    pub right_full : r.full ≡ true → Images m frame formulas at before after s1 s3 r
     unfolding pair
-    right-full g =
-        images-as j.is
+    right_full g =
+        images_as j.is
         (images_bind (λ a. bind right (λ b. join p a b)) x e
         (images_stop (λ b. join p l.row b) (λ b. steady_join p l.row b) y g))
 
@@ -280,7 +280,7 @@ module _ {p : Polarity} {m left right : Build ℕ} {frame : Frame} {formulas : L
         → Images m frame formulas at before last s1 s3 z
     unfolding pair
     joined g b =
-        images-as j.is
+        images_as j.is
         (images_bind (λ a. bind right (λ b. join p a b)) x e
         (images_bind (λ b. join p l.row b) y g
         (images_leaf (steady_join p l.row r.row) (y.memo g) b)))
@@ -298,11 +298,11 @@ images_known {frame} {at = at} {before = before} {scratch} {i} {k} p a e some =
     let w = get_or scratch k 0 in
     let here : w ≡ w - 1 + 1 = omega arith in
     let k = a.memo.known p i (w - 1) a.formula (ap (λ x. get_or scratch x 0) (sym e) ∙ here) in
-    let b : w - 1 < at.rows = rw (length-upto at.rows (row_at before.table)) at k.below in
+    let b : w - 1 < at.rows = rw (length_upto at.rows (row_at before.table)) at k.below in
     let rows = a.ready.rows in
     record {
       builds =
-          builds-done (ne_eqb (w - 1) 65535 (λ q. omega (arith, rows.within, rows.limit)))
+          builds_done (ne_eqb (w - 1) 65535 (λ q. omega (arith, rows.within, rows.limit)))
           (record {
             value = ap (λ (g : Got ℕ). g.value) k.again;
             state = ap (λ (g : Got ℕ). g.st) k.again;

@@ -12,8 +12,8 @@ use Rattle.task.specs.Table.{row_at, FormulaKind, false_kind, true_kind, variabl
 use Rattle.task.specs.Rules.{no_row, FormulaRule}
 use Rattle.task.specs.Semantics.{Formula}
 use Rattle.task.specs.Tree.{formula_node}
-use Rattle.task.proofs.Bounded.{length-upto, getD-upto}
-use Rattle.task.proofs.Trees.{formula-unfolds}
+use Rattle.task.proofs.Bounded.{length_upto, getD_upto}
+use Rattle.task.proofs.Trees.{formula_unfolds}
 use Rattle.task.specs.Inner.Rows.{FormulaKept}
 use Rattle.normal_form.specs.Builder.{Build, pair, Polarity, plain, negated}
 use Rattle.normal_form.specs.Image.{image}
@@ -49,35 +49,35 @@ two_operands v i k a b r l = go (ℕ_discrete k 4) (ℕ_discrete k 5) (ℕ_discr
 
 -- The image of a row by its kind, over the formulas p and q that its words a and b name.
 module _ (n : ℕ) (a : ℕ) (f g : Formula) where
-  leaf-image :
+  leaf_image :
       (p : Polarity) (k b : ℕ)
       → k < 3
       → image n p (formula_node (formula_kind k) a f g) ≡ leaf_built n p (record { kind = k; a = a; b = b })
   unfolding image formula_node formula_kind leaf_built
-  leaf-image plain zero b h = refl
-  leaf-image plain (suc zero) b h = refl
-  leaf-image plain (suc (suc zero)) b h = refl
-  leaf-image plain (suc (suc (suc k))) b h = absurd (omega arith)
-  leaf-image negated zero b h = refl
-  leaf-image negated (suc zero) b h = refl
-  leaf-image negated (suc (suc zero)) b h = refl
-  leaf-image negated (suc (suc (suc k))) b h = absurd (omega arith)
+  leaf_image plain zero b h = refl
+  leaf_image plain (suc zero) b h = refl
+  leaf_image plain (suc (suc zero)) b h = refl
+  leaf_image plain (suc (suc (suc k))) b h = absurd (omega arith)
+  leaf_image negated zero b h = refl
+  leaf_image negated (suc zero) b h = refl
+  leaf_image negated (suc (suc zero)) b h = refl
+  leaf_image negated (suc (suc (suc k))) b h = absurd (omega arith)
 
-  negation-image :
+  negation_image :
       (b : Bool) (k : ℕ) → k ≡ 3 → image n (side b) (formula_node (formula_kind k) a f g) ≡ image n (side (not b)) f
   unfolding image formula_node formula_kind
-  negation-image false k e = rw e
-  negation-image true k e = rw e
+  negation_image false k e = rw e
+  negation_image true k e = rw e
 
   -- "and", "or" and "implies": which side the left is on, and which join it is
-  pair-image :
+  pair_image :
       (b : Bool) (k : ℕ)
       → 4 ≤ k
       → k < 7
       → image n (side b) (formula_node (formula_kind k) a f g)
       ≡ pair (side (beq (eqb k 4) b)) (image n (side (not (beq (eqb k 6) b))) f) (image n (side b) g)
   unfolding image formula_node formula_kind
-  pair-image b k l h = go b (ℕ_discrete k 4) (ℕ_discrete k 5)
+  pair_image b k l h = go b (ℕ_discrete k 4) (ℕ_discrete k 5)
     where
       go :
           (b : Bool)
@@ -92,14 +92,14 @@ module _ (n : ℕ) (a : ℕ) (f g : Formula) where
       go false (no c) (no d) = let e : k ≡ 6 = omega arith in rw e
       go true (no c) (no d) = let e : k ≡ 6 = omega arith in rw e
 
-  equivalence-image :
+  equivalence_image :
       (b : Bool) (k : ℕ)
       → k ≡ 7
       → image n (side b) (formula_node (formula_kind k) a f g)
       ≡ pair negated (pair plain (image n plain f) (image n (side b) g)) (pair plain (image n negated f) (image n (side (not b)) g))
   unfolding image formula_node formula_kind
-  equivalence-image false k e = rw e
-  equivalence-image true k e = rw e
+  equivalence_image false k e = rw e
+  equivalence_image true k e = rw e
 
 -- the operands of row i are those that its words name
 pub pair_words :
@@ -124,36 +124,36 @@ becoming_itself frame c = rw (ne_eqb frame.copied 0 c)
 -- Row i of the source, with the words w.
 module _ {frame : Frame} {formulas : List ℕ} {at : Size} {before : Store} {scratch : List ℕ} {i : ℕ} (x : Asks frame formulas at before scratch i)
     (w : Words) (e : row_of w ≡ row_at formulas i) where
-  row-held : get_or (source_rows frame formulas) i no_row ≡ row_of w
+  row_held : get_or (source_rows frame formulas) i no_row ≡ row_of w
   unfolding source_rows
-  row-held = getD-upto frame.formulas (row_at formulas) i no_row x.formula ∙ sym e
+  row_held = getD_upto frame.formulas (row_at formulas) i no_row x.formula ∙ sym e
 
   within : i < length (source_rows frame formulas)
   unfolding source_rows
-  within = rw (length-upto frame.formulas (row_at formulas)) x.formula
+  within = rw (length_upto frame.formulas (row_at formulas)) x.formula
 
-  rule-held : FormulaKept frame.variables i (row_of w)
-  rule-held = rw row-held at (x.source.down.row i within)
+  rule_held : FormulaKept frame.variables i (row_of w)
+  rule_held = rw row_held at (x.source.down.row i within)
 
   known : w.kind < 8
-  known = known_kind frame.variables i w.kind w.a w.b rule-held
+  known = known_kind frame.variables i w.kind w.a w.b rule_held
 
   -- the two words of a row of kind 4 to 7 name lower rows
   pub operands : 4 ≤ w.kind → (w.a < i) × (w.b < i)
-  operands l = two_operands frame.variables i w.kind w.a w.b rule-held l
+  operands l = two_operands frame.variables i w.kind w.a w.b rule_held l
 
   -- and that of kind 3
-  pub negated-operand : w.kind ≡ 3 → w.a < i
+  pub negated_operand : w.kind ≡ 3 → w.a < i
   unfolding formula_kind
-  negated-operand k =
-      let r : FormulaRule frame.variables i (formula_kind 3) w.a w.b = rw k at rule-held in
+  negated_operand k =
+      let r : FormulaRule frame.variables i (formula_kind 3) w.a w.b = rw k at rule_held in
       r.0
 
   -- of a variable's row the first word is a variable, and the last is not used
-  pub variable-words : w.kind ≡ 2 → (w.a < frame.variables) × (w.b ≡ 0)
+  pub variable_words : w.kind ≡ 2 → (w.a < frame.variables) × (w.b ≡ 0)
   unfolding formula_kind
-  variable-words k =
-      let r : FormulaRule frame.variables i (formula_kind 2) w.a w.b = rw k at rule-held in
+  variable_words k =
+      let r : FormulaRule frame.variables i (formula_kind 2) w.a w.b = rw k at rule_held in
       (r.0, r.1)
 
 -- It is built.
@@ -173,24 +173,24 @@ module _ {frame : Frame} {formulas : List ℕ} {at : Size} {before : Store} {scr
   unfolds p =
       imaged p i
       ∙ ap (image frame.variables p)
-      (formula-unfolds frame.variables (source_rows frame formulas) x.asks.source.down i (within x.asks w e)
-      ∙ rw (row-held x.asks w e))
+      (formula_unfolds frame.variables (source_rows frame formulas) x.asks.source.down i (within x.asks w e)
+      ∙ rw (row_held x.asks w e))
 
-  pub of-leaf : (b : Bool) → w.kind < 3 → image_at frame formulas (side b) i ≡ leaf_built frame.variables (side b) (row_of w)
+  pub of_leaf : (b : Bool) → w.kind < 3 → image_at frame formulas (side b) i ≡ leaf_built frame.variables (side b) (row_of w)
   unfolding node
-  of-leaf b l = unfolds (side b) ∙ leaf-image frame.variables _ _ _ (side b) w.kind w.b l
+  of_leaf b l = unfolds (side b) ∙ leaf_image frame.variables _ _ _ (side b) w.kind w.b l
 
-  pub of-not : (b : Bool) → w.kind ≡ 3 → image_at frame formulas (side b) i ≡ image_at frame formulas (side (not b)) w.a
+  pub of_not : (b : Bool) → w.kind ≡ 3 → image_at frame formulas (side b) i ≡ image_at frame formulas (side (not b)) w.a
   unfolding node
-  of-not b k = unfolds (side b) ∙ negation-image frame.variables _ _ _ b w.kind k ∙ sym (imaged (side (not b)) w.a)
+  of_not b k = unfolds (side b) ∙ negation_image frame.variables _ _ _ b w.kind k ∙ sym (imaged (side (not b)) w.a)
 
   -- the operands' images, from what they become
-  operand-images :
+  operand_images :
       (left right or : Bool)
       → pair (side or) (image frame.variables (side left) (tree frame formulas w.a))
       (image frame.variables (side right) (tree frame formulas w.b))
       ≡ pair_at frame formulas i left right or
-  operand-images left right or =
+  operand_images left right or =
       ap₂ (pair (side or)) (sym (imaged (side left) w.a)) (sym (imaged (side right) w.b))
       ∙ sym (pair_words frame formulas i w e left right or)
 
@@ -203,12 +203,12 @@ module _ {frame : Frame} {formulas : List ℕ} {at : Size} {before : Store} {scr
   unfolding node
   of_pair b l m =
       unfolds (side b)
-      ∙ pair-image frame.variables _ _ _ b w.kind l (omega (arith, known x.asks w e))
-      ∙ operand-images (not (beq (eqb w.kind 6) b)) b (beq (eqb w.kind 4) b)
+      ∙ pair_image frame.variables _ _ _ b w.kind l (omega (arith, known x.asks w e))
+      ∙ operand_images (not (beq (eqb w.kind 6) b)) b (beq (eqb w.kind 4) b)
 
-  pub of-equivalent : (b : Bool) → w.kind ≡ 7 → image_at frame formulas (side b) i ≡ equivalent_at frame formulas i b
+  pub of_equivalent : (b : Bool) → w.kind ≡ 7 → image_at frame formulas (side b) i ≡ equivalent_at frame formulas i b
   unfolding node equivalent_at
-  of-equivalent b k =
+  of_equivalent b k =
       unfolds (side b)
-      ∙ equivalence-image frame.variables _ _ _ b w.kind k
-      ∙ ap₂ (pair negated) (operand-images false b false) (operand-images true (not b) false)
+      ∙ equivalence_image frame.variables _ _ _ b w.kind k
+      ∙ ap₂ (pair negated) (operand_images false b false) (operand_images true (not b) false)

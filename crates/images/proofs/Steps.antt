@@ -14,8 +14,8 @@ use Rattle.formula_builder.specs.declared.Step.{Step}
 use Rattle.formula_builder.specs.Inner.Held.{Store, row_of, size_of, side, JoinReady, Builds}
 use Rattle.formula_builder.proofs.Steps.{builds_as}
 use Rattle.images.specs.Inner.Images.{image_at, pair_at, equivalent_at, leaf_built, Asks, AsksBuilt, AsksPair, LeafReady, Images}
-use Rattle.images.proofs.Rows.{operands, negated-operand, variable-words, of-leaf, pair_words}
-use Rattle.images.proofs.Memos.{steady_image_at, steady_pair_at, asks-next, images_leaf, Joins}
+use Rattle.images.proofs.Rows.{operands, negated_operand, variable_words, of_leaf, pair_words}
+use Rattle.images.proofs.Memos.{steady_image_at, steady_pair_at, asks_next, images_leaf, Joins}
 
 -- what a join of two rows asks
 pub join_asks :
@@ -65,10 +65,10 @@ asks_lower a h = record { source = a.source; ready = a.ready; memo = a.memo; for
 module _ {frame : Frame} {formulas : List ℕ} {at : Size} {before : Store} {scratch : List ℕ} {i : ℕ} (a : Asks frame formulas at before scratch i)
     (w : Words) (e : row_of w ≡ row_at formulas i) where
   pub asks_negated : w.kind ≡ 3 → Asks frame formulas at before scratch w.a
-  asks_negated k = asks_lower a (negated-operand a w e k)
+  asks_negated k = asks_lower a (negated_operand a w e k)
 
-  pub asks-pair : 4 ≤ w.kind → AsksPair frame formulas at before scratch i
-  asks-pair l =
+  pub asks_pair : 4 ≤ w.kind → AsksPair frame formulas at before scratch i
+  asks_pair l =
       let o = operands a w e l in
       record {
         asks = a;
@@ -76,52 +76,52 @@ module _ {frame : Frame} {formulas : List ℕ} {at : Size} {before : Store} {scr
         right = omega (arith, ap (λ (r : Row). r.b) e, o.1);
       }
 
-  pub leaf-ready : w.kind < 3 → LeafReady frame at before (row_of w)
-  leaf-ready l =
+  pub leaf_ready : w.kind < 3 → LeafReady frame at before (row_of w)
+  leaf_ready l =
       record {
         ready = a.ready;
         kind = l;
-        unused = λ k. (variable-words a w e k).1;
-        variable = λ k. (variable-words a w e k).0;
+        unused = λ k. (variable_words a w e k).1;
+        variable = λ k. (variable_words a w e k).0;
       }
 
 -- It is built.
 module _ {frame : Frame} {formulas : List ℕ} {at : Size} {before : Store} {scratch : List ℕ} {i : ℕ} (a : AsksBuilt frame formulas at before scratch i)
     (w : Words) (e : row_of w ≡ row_at formulas i) where
-  pub leaf-done :
+  pub leaf_done :
       {after : Store} {r : Step} (b : Bool)
       → w.kind < 3
       → Builds (leaf_built frame.variables (side b) (row_of w)) frame at before after r
       → Images (image_at frame formulas (side b) i) frame formulas at before after scratch scratch r
-  leaf-done b l x =
-      images_leaf (steady_image_at frame formulas (side b) i) a.asks.memo (builds_as (of-leaf a w e b l) x)
+  leaf_done b l x =
+      images_leaf (steady_image_at frame formulas (side b) i) a.asks.memo (builds_as (of_leaf a w e b l) x)
 
 -- Its operands.
 module _ {frame : Frame} {formulas : List ℕ} {at : Size} {before : Store} {scratch : List ℕ} {i : ℕ}
     (a : AsksPair frame formulas at before scratch i) (w : Words) (e : row_of w ≡ row_at formulas i) where
-  pub left-lower : w.a < i
-  left-lower = omega (arith, ap (λ (r : Row). r.a) e, a.left)
+  pub left_lower : w.a < i
+  left_lower = omega (arith, ap (λ (r : Row). r.a) e, a.left)
 
-  pub right-lower : w.b < i
-  right-lower = omega (arith, ap (λ (r : Row). r.b) e, a.right)
+  pub right_lower : w.b < i
+  right_lower = omega (arith, ap (λ (r : Row). r.b) e, a.right)
 
-  pub asks-left : Asks frame formulas at before scratch w.a
-  asks-left = asks_lower a.asks left-lower
+  pub asks_left : Asks frame formulas at before scratch w.a
+  asks_left = asks_lower a.asks left_lower
 
   -- after the left
-  pub asks-right :
+  pub asks_right :
       {m : Build ℕ} {after : Store} {scratch' : List ℕ} {r : Step}
       → Images m frame formulas at before after scratch scratch' r
       → r.full ≡ false
       → length scratch' ≡ length scratch
       → Asks frame formulas (size_of r) after scratch' w.b
-  asks-right x g long = asks-next w.b a.asks x g long (omega (arith, right-lower, a.asks.formula))
+  asks_right x g long = asks_next w.b a.asks x g long (omega (arith, right_lower, a.asks.formula))
 
-  pub pair-joins :
+  pub pair_joins :
       (left right or : Bool)
       → Joins (side or) (pair_at frame formulas i left right or) (image_at frame formulas (side left) w.a)
       (image_at frame formulas (side right) w.b)
-  pair-joins left right or =
+  pair_joins left right or =
       record { is = pair_words frame formulas i w e left right or; steady = steady_image_at frame formulas (side right) w.b }
 
 -- after the first pair
@@ -133,4 +133,4 @@ pub asks_second :
     → length scratch' ≡ length scratch
     → AsksPair frame formulas (size_of r) after scratch' i
 asks_second {i = i} a x g long =
-    record { asks = asks-next i a.asks x g long a.asks.formula; left = a.left; right = a.right }
+    record { asks = asks_next i a.asks x g long a.asks.formula; left = a.left; right = a.right }

@@ -28,17 +28,17 @@ pub record BytesDone (bytes : List ℕ) (count at : ℕ) (before out : List ℕ)
   pub here : place ≡ at + i
 
 module _ (bytes : List ℕ) (count at : ℕ) (before : List ℕ) where
-  pub bytes-begin : BytesDone bytes count at before before 0 at
-  bytes-begin = record { within = omega arith; done = put_none at before; here = omega arith }
+  pub bytes_begin : BytesDone bytes count at before before 0 at
+  bytes_begin = record { within = omega arith; done = put_none at before; here = omega arith }
 
-  pub bytes-more :
+  pub bytes_more :
       (out : List ℕ) (i place : ℕ) {out' : List ℕ} {r : ℕ}
       → BytesDone bytes count at before out i place
       → i < count
       → count ≤ length bytes
       → Put (get_or bytes i 0 ∷ []) place r out out'
       → BytesDone bytes count at before out' (i + 1) r
-  bytes-more out i place d h l p =
+  bytes_more out i place d h l p =
       let b : i < length bytes = omega arith in
       record {
         within = omega arith;
@@ -46,8 +46,8 @@ module _ (bytes : List ℕ) (count at : ℕ) (before : List ℕ) where
         here = omega (arith, p.next, d.here);
       }
 
-  pub bytes-end : (out : List ℕ) (i place : ℕ) → BytesDone bytes count at before out i place → count ≤ i → Put (take count bytes) at place before out
-  bytes-end out i place d h =
+  pub bytes_end : (out : List ℕ) (i place : ℕ) → BytesDone bytes count at before out i place → count ≤ i → Put (take count bytes) at place before out
+  bytes_end out i place d h =
       let e : i ≡ count = omega (arith, d.within) in
       put_same (ap (λ (n : ℕ). take n bytes) e) d.done
 
@@ -74,20 +74,20 @@ head_put h p = (p, p.next)
 
 -- bytes put into an output that was cleared
 module _ (bytes out : List ℕ) {z out' : List ℕ} {end : ℕ} (clear : z ≡ replicate (length out) 0) (put : Put bytes 0 end z out') where
-  z-size : length z ≡ length out
-  z-size = ap length clear ∙ length-replicate (length out) 0
+  z_size : length z ≡ length out
+  z_size = ap length clear ∙ length-replicate (length out) 0
 
   pub size : length out' ≡ length out
-  size = put_size put ∙ z-size
+  size = put_size put ∙ z_size
 
   pub end_is : end ≡ length bytes
   end_is = omega (arith, put.next)
 
   -- past them all is 0
-  pub put-padded : end ≤ length out' → out' ≡ padded (length out) bytes
+  pub put_padded : end ≤ length out' → out' ≡ padded (length out) bytes
   unfolding padded zeros_of
-  put-padded h =
-      let whole : out' ≡ bytes ++ drop (0 + length bytes) z = put.wrote ∙ sets-eq bytes z 0 (omega (arith, end_is, z-size, size)) in
+  put_padded h =
+      let whole : out' ≡ bytes ++ drop (0 + length bytes) z = put.wrote ∙ sets-eq bytes z 0 (omega (arith, end_is, z_size, size)) in
       let rest : drop (0 + length bytes) z ≡ replicate (length out - length bytes) 0 =
       ap (drop (0 + length bytes)) clear ∙ drop_zeros (length out) (0 + length bytes) ∙ ap (λ (k : ℕ). replicate (length out - k) 0) (zero-add (length bytes))
       in
@@ -103,7 +103,7 @@ module _ (bytes out : List ℕ) {z out' : List ℕ} {end : ℕ} (clear : z ≡ r
   unfolding laid laid_by
   fitted h =
       let t : leb (length bytes) (length out) ≡ true = le-leb (length bytes) (length out) (omega (arith, end_is, size)) in
-      record { told = rw t; held = rw t (put-padded h) }
+      record { told = rw t; held = rw t (put_padded h) }
 
 -- tables that hold a task's words with anything behind them have the task's layout
 pub flat_in : (t : Task) (i w f e o : List ℕ) → flat_bytes (lent_in t i w f e o) ≡ tables_bytes t

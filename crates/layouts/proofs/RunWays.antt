@@ -11,13 +11,13 @@ use lib.Dec.{leb, eqb}
 use borrow.Author.Tests.{le-leb, lt-leb, eq-eqb, ne_eqb, leb-true}
 use Rattle.task.specs.Bounded.{every, upto}
 use Rattle.task.specs.Check.{state_kept, sequence_kept, unless}
-use Rattle.task.proofs.Bounded.{length-upto}
+use Rattle.task.proofs.Bounded.{length_upto}
 use Rattle.task_writer.specs.Inner.Putting.{Put}
 use Rattle.task_writer.proofs.Puts.{put_none, put_then, put_same}
 use Rattle.plan.specs.declared.outcome.RunOutcome.{RunOutcome}
 use Rattle.layouts.specs.Layout.{low_bytes, numbers_of, run_number, flag}
 use Rattle.layouts.specs.Inner.Giving.{stop_of, plan_of, outcome_bytes, ResultGives}
-use Rattle.layouts.proofs.LayWays.{put-padded, size}
+use Rattle.layouts.proofs.LayWays.{put_padded, size}
 
 -- the numbers of a sequence
 abbrev number_at : List ℕ → ℕ → ℕ
@@ -25,7 +25,7 @@ number_at bytes i = get_or bytes (2 * i) 0 + 256 * get_or bytes (2 * i + 1) 0
 
 pub numbers_length : (bytes : List ℕ) → length (numbers_of bytes) ≡ length bytes / 2
 unfolding numbers_of
-numbers_length bytes = length-upto (length bytes / 2) (number_at bytes)
+numbers_length bytes = length_upto (length bytes / 2) (number_at bytes)
 
 -- what a loop has decoded after i numbers
 pub record Decoded (bytes before numbers : List ℕ) (i : ℕ) : Type 0 where
@@ -35,11 +35,11 @@ pub record Decoded (bytes before numbers : List ℕ) (i : ℕ) : Type 0 where
   pub behind : drop i numbers ≡ drop i before
 
 module _ (bytes before : List ℕ) where
-  pub decode-begin : Decoded bytes before before 0
+  pub decode_begin : Decoded bytes before before 0
   unfolding upto
-  decode-begin = record { within = omega arith; same = refl; front = refl; behind = refl }
+  decode_begin = record { within = omega arith; same = refl; front = refl; behind = refl }
 
-  pub decode-more :
+  pub decode_more :
       (numbers : List ℕ) (i : ℕ) {w : ℕ}
       → Decoded bytes before numbers i
       → i < length bytes / 2
@@ -47,7 +47,7 @@ module _ (bytes before : List ℕ) where
       → w ≡ number_at bytes i
       → Decoded bytes before (set numbers i w) (i + 1)
   unfolding upto
-  decode-more numbers i {w} d h room e =
+  decode_more numbers i {w} d h room e =
       let b : i < length numbers = omega (arith, d.same) in
       record {
         within = omega arith;
@@ -64,26 +64,26 @@ module _ (bytes before : List ℕ) where
             ∙ drop-drop 1 i before;
       }
 
-  pub decode-end :
+  pub decode_end :
       (numbers : List ℕ) (i : ℕ)
       → Decoded bytes before numbers i
       → length bytes / 2 ≤ i
       → numbers ≡ numbers_of bytes ++ drop (length bytes / 2) before
   unfolding numbers_of
-  decode-end numbers i d h =
+  decode_end numbers i d h =
       let e : i ≡ length bytes / 2 = omega (arith, d.within) in
       rw (← e) (sym (take-append-drop i numbers) ∙ (λ j. d.front j ++ d.behind j))
 
 -- the refusals, in order
 module _ (v : ℕ) (s q : List ℕ) (r : ℕ) where
-  pub wrong-length : (length s ≡ v → ⊥) → 16 ≡ run_number v s q r
+  pub wrong_length : (length s ≡ v → ⊥) → 16 ≡ run_number v s q r
   unfolding run_number state_kept sequence_kept
-  wrong-length h = rw (ne_eqb (length s) v h)
+  wrong_length h = rw (ne_eqb (length s) v h)
 
   module _ (same : length s ≡ v) where
-    pub wrong-bits : {b : Bool} → b ≡ every (length s) (λ v. leb (get_or s v 0) 1) → b ≡ false → 16 ≡ run_number v s q r
+    pub wrong_bits : {b : Bool} → b ≡ every (length s) (λ v. leb (get_or s v 0) 1) → b ≡ false → 16 ≡ run_number v s q r
     unfolding run_number state_kept sequence_kept
-    wrong-bits e f = rw (eq-eqb (length s) v same, sym e ∙ f)
+    wrong_bits e f = rw (eq-eqb (length s) v same, sym e ∙ f)
 
     module _ {b : Bool} (tested : b ≡ every (length s) (λ v. leb (get_or s v 0) 1)) (fine : b ≡ true) where
       state-fine : eqb (length s) v && every (length s) (λ v. leb (get_or s v 0) 1) ≡ true
@@ -145,17 +145,17 @@ pub record LowDone (count at x : ℕ) (before out : List ℕ) (i rest place : �
   pub here : place ≡ at + i
 
 module _ (count at x : ℕ) (before : List ℕ) where
-  pub low-begin : LowDone count at x before before 0 x at
-  low-begin = record { done = []; within = omega arith; put = put_none at before; whole = ap (λ (n : ℕ). low_bytes n x) (omega arith); here = omega arith }
+  pub low_begin : LowDone count at x before before 0 x at
+  low_begin = record { done = []; within = omega arith; put = put_none at before; whole = ap (λ (n : ℕ). low_bytes n x) (omega arith); here = omega arith }
 
-  pub low-more :
+  pub low_more :
       (out : List ℕ) (i rest place : ℕ) {out' : List ℕ} {r : ℕ}
       → LowDone count at x before out i rest place
       → i < count
       → Put (rest % 256 ∷ []) place r out out'
       → LowDone count at x before out' (i + 1) (rest / 256) r
   unfolding low_bytes
-  low-more out i rest place d h p =
+  low_more out i rest place d h p =
       let n : count - i ≡ suc (count - (i + 1)) = omega arith in
       record {
         done = d.done ++ (rest % 256 ∷ []);
@@ -203,4 +203,4 @@ result_put o out {z} {o1} {o2} {o3} {o4} {o5} {a} {b} {c} {d} {e} {g} {p} {numbe
     put_same (λ j. low_bytes 4 o.steps ++ (low_bytes 8 o.cost ++ (eg j ∷ ep j ∷ low_bytes 2 (en j)))) whole
     in
     let end : e ≡ 16 = omega (arith, low_next 4 o.steps p1, low_next 8 o.cost p2, p3.next, p4.next, low_next 2 number p5) in
-    record { told = en; held = put-padded (outcome_bytes o) out clear there (omega (arith, size (outcome_bytes o) out clear there)) }
+    record { told = en; held = put_padded (outcome_bytes o) out clear there (omega (arith, size (outcome_bytes o) out clear there)) }

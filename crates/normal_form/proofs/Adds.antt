@@ -13,7 +13,7 @@ use Rattle.normal_form.specs.Growth.{Prefix, Grows, Steady}
 use Rattle.normal_form.specs.Conditions.{Becoming, condition}
 use Rattle.normal_form.specs.Operators.{Changes, deletes_of, changes_of}
 use Rattle.normal_form.proofs.Growth.{grows_refl, grows_trans, steady_give, steady_bind, steady_join}
-use Rattle.normal_form.proofs.Steady.{steady-condition, steady-deletes, steady-changes}
+use Rattle.normal_form.proofs.Steady.{steady_condition, steady_deletes, steady_changes}
 
 -- the step adds nothing in this state
 abbrev pub AddsNothing : {A : Type 0} → Build A → St → Type 0
@@ -38,36 +38,36 @@ grows_antisym g h = ap₂ made (prefix_antisym g.rows h.rows) (prefix_antisym g.
 
 -- A step that was taken, or that adds nothing, adds nothing later.
 module _ {A : Type 0} {m : Build A} (steady : Steady m) where
-  pub nothing-again : {s t : St} → Grows (m s).st t → AddsNothing m t
-  nothing-again {s} {t} g = ap (λ (x : Got A). x.st) (steady.again s t g)
+  pub nothing_again : {s t : St} → Grows (m s).st t → AddsNothing m t
+  nothing_again {s} {t} g = ap (λ (x : Got A). x.st) (steady.again s t g)
 
-  pub nothing-later : {s t : St} → Grows s t → AddsNothing m s → AddsNothing m t
-  nothing-later {s} {t} g q = nothing-again {s = s} {t = t} (rw q g)
+  pub nothing_later : {s t : St} → Grows s t → AddsNothing m s → AddsNothing m t
+  nothing_later {s} {t} g q = nothing_again {s = s} {t = t} (rw q g)
 
 -- Of m, then what f makes of its value.
 module _ {A B : Type 0} {m : Build A} {f : A → Build B} (first : Steady m) (next : (x : A) → Steady (f x)) {s : St} where
-  pub nothing-first : AddsNothing (bind m f) s → AddsNothing m s
+  pub nothing_first : AddsNothing (bind m f) s → AddsNothing m s
   unfolding bind
-  nothing-first q =
+  nothing_first q =
       let back : Grows (m s).st s = rw q at ((next (m s).value).grow (m s).st) in
       grows_antisym back (first.grow s)
 
-  pub nothing-next : AddsNothing (bind m f) s → AddsNothing (f (m s).value) s
+  pub nothing_next : AddsNothing (bind m f) s → AddsNothing (f (m s).value) s
   unfolding bind
-  nothing-next q =
-      let here : (m s).st ≡ s = nothing-first q in
+  nothing_next q =
+      let here : (m s).st ≡ s = nothing_first q in
       ap (λ (t : St). (f (m s).value t).st) (sym here) ∙ q
 
 -- Of a pair.
 module _ (p : Polarity) {l r : Build ℕ} (left : Steady l) (right : Steady r) {s : St} where
   pub nothing_left : AddsNothing (pair p l r) s → AddsNothing l s
   unfolding pair
-  nothing_left q = nothing-first left (λ a. steady_bind right (λ b. steady_join p a b)) q
+  nothing_left q = nothing_first left (λ a. steady_bind right (λ b. steady_join p a b)) q
 
   pub nothing_right : AddsNothing (pair p l r) s → AddsNothing r s
   unfolding pair
   nothing_right q =
-      nothing-first right (λ b. steady_join p (l s).value b) (nothing-next left (λ a. steady_bind right (λ b. steady_join p a b)) q)
+      nothing_first right (λ b. steady_join p (l s).value b) (nothing_next left (λ a. steady_bind right (λ b. steady_join p a b)) q)
 
 -- Of f 0, f 1 .. f (n - 1): each of them, once all are taken.
 pub nothing_each :
@@ -83,39 +83,39 @@ nothing_each (suc n) {f} steady s {t} {v} h g = go (dec_lt v n) (λ l. nothing_e
     go (yes l) below = below l
     go (no l) below =
         let here : v ≡ n = omega arith in
-        rw here (nothing-again (steady n) g)
+        rw here (nothing_again (steady n) g)
 
 -- Whatever a formula becomes, if that is steady.
 module _ (becomes : Becoming) (steady : (p : Polarity) (f : Formula) → Steady (becomes p f)) where
   -- What is built of a variable behind A.
-  steady-cleared :
+  steady_cleared :
       (e : Effect) (v a : ℕ)
       → Steady
       (bind (condition becomes plain (clears v) e)
       (λ d. bind (deletes_of becomes e v a d) (λ k. give {A = Changes} (record { variable = v; adds = a; deletes = k }))))
-  steady-cleared e v a =
-      steady_bind (steady-condition becomes steady plain (clears v) e)
-      (λ d. steady_bind (steady-deletes becomes steady e v a d) (λ k. steady_give _))
+  steady_cleared e v a =
+      steady_bind (steady_condition becomes steady plain (clears v) e)
+      (λ d. steady_bind (steady_deletes becomes steady e v a d) (λ k. steady_give _))
 
   -- Of the changes of a variable: A and D.
-  nothing-set : (e : Effect) (v : ℕ) {s : St} → AddsNothing (changes_of becomes e v) s → AddsNothing (condition becomes plain (sets v) e) s
+  nothing_set : (e : Effect) (v : ℕ) {s : St} → AddsNothing (changes_of becomes e v) s → AddsNothing (condition becomes plain (sets v) e) s
   unfolding changes_of
-  nothing-set e v q = nothing-first (steady-condition becomes steady plain (sets v) e) (steady-cleared e v) q
+  nothing_set e v q = nothing_first (steady_condition becomes steady plain (sets v) e) (steady_cleared e v) q
 
-  nothing-clear : (e : Effect) (v : ℕ) {s : St} → AddsNothing (changes_of becomes e v) s → AddsNothing (condition becomes plain (clears v) e) s
+  nothing_clear : (e : Effect) (v : ℕ) {s : St} → AddsNothing (changes_of becomes e v) s → AddsNothing (condition becomes plain (clears v) e) s
   unfolding changes_of
-  nothing-clear e v {s} q =
-      nothing-first (steady-condition becomes steady plain (clears v) e)
-      (λ d. steady_bind (steady-deletes becomes steady e v (condition becomes plain (sets v) e s).value d) (λ k. steady_give _))
-      (nothing-next (steady-condition becomes steady plain (sets v) e) (steady-cleared e v) q)
+  nothing_clear e v {s} q =
+      nothing_first (steady_condition becomes steady plain (clears v) e)
+      (λ d. steady_bind (steady_deletes becomes steady e v (condition becomes plain (sets v) e s).value d) (λ k. steady_give _))
+      (nothing_next (steady_condition becomes steady plain (sets v) e) (steady_cleared e v) q)
 
 -- Of the changes of all variables, as an operator builds them: the plain conditions of every atom.
 module _ (becomes : Becoming) (steady : (p : Polarity) (f : Formula) → Steady (becomes p f)) (n : ℕ) (e : Effect) {s : St} (q : AddsNothing (each n (changes_of becomes e)) s) {v : ℕ} (h : v < n) where
   change : AddsNothing (changes_of becomes e v) s
-  change = nothing_each n (steady-changes becomes steady e) s h (rw q (grows_refl s))
+  change = nothing_each n (steady_changes becomes steady e) s h (rw q (grows_refl s))
 
-  pub nothing-sets : AddsNothing (condition becomes plain (sets v) e) s
-  nothing-sets = nothing-set becomes steady e v change
+  pub nothing_sets : AddsNothing (condition becomes plain (sets v) e) s
+  nothing_sets = nothing_set becomes steady e v change
 
-  pub nothing-clears : AddsNothing (condition becomes plain (clears v) e) s
-  nothing-clears = nothing-clear becomes steady e v change
+  pub nothing_clears : AddsNothing (condition becomes plain (clears v) e) s
+  nothing_clears = nothing_clear becomes steady e v change

@@ -18,15 +18,15 @@ use Rattle.normal_form.specs.Assembly.{Rule, rule, with_twin, rules_of, rules, W
 use Rattle.normal_form.specs.Finished.{built, assembled, finished}
 use Rattle.normal_form.proofs.Growth.{longer}
 use Rattle.normal_form.proofs.ShapeWritten.{rules_prefix}
-use Rattle.normal_form.proofs.ShapeAssembled.{unwritten, assemble-effects}
-use Rattle.normal_form.proofs.ShapeFinished.{no_built, built_at, built-operators}
-use Rattle.normal_form.proofs.ShapeCounts.{rules_split, assemble-split}
+use Rattle.normal_form.proofs.ShapeAssembled.{unwritten, assemble_effects}
+use Rattle.normal_form.proofs.ShapeFinished.{no_built, built_at, built_operators}
+use Rattle.normal_form.proofs.ShapeCounts.{rules_split, assemble_split}
 
 module _ (n : ℕ) (twins : List ℕ) where
   -- a variable that an operator neither sets nor clears has no rules
-  pub rules-none : (c : Changes) → c.adds ≡ 0 → c.deletes ≡ 0 → rules_of n twins c ≡ []
+  pub rules_none : (c : Changes) → c.adds ≡ 0 → c.deletes ≡ 0 → rules_of n twins c ≡ []
   unfolding rules_of rule with_twin
-  rules-none c a d =
+  rules_none c a d =
       rw (eq-eqb c.adds 0 a, eq-eqb c.deletes 0 d) (none (ltb (place eqb c.variable twins) (length twins)))
     where
       none : (b : Bool) → ◌≡◌ {A = List Rule} (cond b [] [] ++ cond b [] []) []
@@ -34,11 +34,11 @@ module _ (n : ℕ) (twins : List ℕ) where
       none false = refl
 
   -- variables one after another
-  pub rules-append : (cs ds : List Changes) → rules n twins (cs ++ ds) ≡ rules n twins cs ++ rules n twins ds
+  pub rules_append : (cs ds : List Changes) → rules n twins (cs ++ ds) ≡ rules n twins cs ++ rules n twins ds
   unfolding rules
-  rules-append [] ds = refl
-  rules-append (c ∷ cs) ds =
-      rw (rules-append cs ds) (sym (append_assoc (rules_of n twins c) (rules n twins cs) (rules n twins ds)))
+  rules_append [] ds = refl
+  rules_append (c ∷ cs) ds =
+      rw (rules_append cs ds) (sym (append_assoc (rules_of n twins c) (rules n twins cs) (rules n twins ds)))
 
 -- The tables before operator o: those of the operators below it.
 unfoldable pub assembled_before : Task → ℕ → Assembled
@@ -61,8 +61,8 @@ module _ (t : Task) where
   before_more o h =
       ap (λ (k : ℕ). assemble n twins unassembled (take k (built t).value.operators)) (add-one o)
       ∙ ap (λ (l : List Built). assemble n twins unassembled l)
-      (take-suc (built t).value.operators o no_built (rw (built-operators t) h))
-      ∙ assemble-split n twins unassembled (take o (built t).value.operators) (built_at t o ∷ [])
+      (take-suc (built t).value.operators o no_built (rw (built_operators t) h))
+      ∙ assemble_split n twins unassembled (take o (built t).value.operators) (built_at t o ∷ [])
       ∙ one
     where
       one :
@@ -71,18 +71,18 @@ module _ (t : Task) where
       one = unfold assemble in refl
 
   -- what stands before operator o, stands in the end
-  before-grows : (o : ℕ) → Prefix (assembled_before t o).effects (finished t).effects
+  before_grows : (o : ℕ) → Prefix (assembled_before t o).effects (finished t).effects
   unfolding assembled_before assembled finished
-  before-grows o =
+  before_grows o =
       let os = (built t).value.operators in
       let whole : assemble n twins (assemble n twins unassembled (take o os)) (drop o os) ≡ assemble n twins unassembled os =
-      sym (assemble-split n twins unassembled (take o os) (drop o os))
+      sym (assemble_split n twins unassembled (take o os) (drop o os))
       ∙ ap (λ (l : List Built). assemble n twins unassembled l) (take-append-drop o os)
       in
-      rw (← whole) (assemble-effects n twins (assemble n twins unassembled (take o os)) (drop o os))
+      rw (← whole) (assemble_effects n twins (assemble n twins unassembled (take o os)) (drop o os))
 
   -- in operator o, before variable v
-  pub moment-effects :
+  pub moment_effects :
       (o v : ℕ)
       → o < length t.operators
       → length
@@ -90,14 +90,14 @@ module _ (t : Task) where
       (rules (length t.initial) (built t).st.twins (take v (built_at t o).changes))
       ).rows
       ≤ length (finished t).effects
-  moment-effects o v h =
+  moment_effects o v h =
       omega (
         arith,
         longer _ _ (rules_prefix (write_rules w (rules n twins (take v cs))) (rules n twins (drop v cs))),
         ap (λ (x : Written). length x.rows) (sym split),
         ap (λ (x : Assembled). length x.effects) (before_more o h),
         own,
-        longer _ _ (before-grows (o + 1)),
+        longer _ _ (before_grows (o + 1)),
       )
     where
       w : Written
@@ -109,7 +109,7 @@ module _ (t : Task) where
       split : write_rules w (rules n twins cs) ≡ write_rules (write_rules w (rules n twins (take v cs))) (rules n twins (drop v cs))
       split =
           ap (λ (l : List Changes). write_rules w (rules n twins l)) (sym (take-append-drop v cs))
-          ∙ ap (write_rules w) (rules-append n twins (take v cs) (drop v cs))
+          ∙ ap (write_rules w) (rules_append n twins (take v cs) (drop v cs))
           ∙ rules_split w (rules n twins (take v cs)) (rules n twins (drop v cs))
 
       own :

@@ -17,15 +17,15 @@ use Rattle.task.specs.Rules.{Checked}
 use Rattle.task.specs.Run.{effect_of_operator}
 use Rattle.task.specs.Words.{words_of, operator_words, head_of, padded}
 use Rattle.task.proofs.Bounded.{and_left, and_right, and_both}
-use Rattle.task.proofs.Kept.{kept-rules}
+use Rattle.task.proofs.Kept.{kept_rules}
 use Rattle.task.proofs.Passed.{room_tested, counts_tested}
-use Rattle.task.proofs.Words.{lent_in, task-in, kept_in}
+use Rattle.task.proofs.Words.{lent_in, task_in, kept_in}
 use Rattle.normal_form.specs.Finished.{finished}
 use Rattle.normal_form.specs.Flat.{Flat}
 use Rattle.normal_form.specs.Positive.{Positive}
 use Rattle.normal_form.specs.Compiled.{Room, compile_scratch_kept, output_lengths, fits, Fits, compile_refusal, compiled_head, not_compiled, CompileOutcome, nothing_given, task_given, outcome_by, compiling, given}
-use Rattle.normal_form.proofs.ShapePassed.{finished-variables, finished-rules, positive}
-use Rattle.normal_form.proofs.ShapeFinished.{finished-operators, flat}
+use Rattle.normal_form.proofs.ShapePassed.{finished_variables, finished_rules, positive}
+use Rattle.normal_form.proofs.ShapeFinished.{finished_operators, flat}
 use Rattle.normal_form.proofs.ShapeLimits.{finished_limits}
 
 -- The test of limits and room.
@@ -75,11 +75,11 @@ fits_if t room source v i w f rows e effects o =
       limits = finished_limits t source v f e;
       tables =
           record {
-            initial = omega (arith, finished-variables t);
+            initial = omega (arith, finished_variables t);
             twins = w;
             formulas = rows;
             effects = effects;
-            operators = omega (arith, finished-operators t);
+            operators = omega (arith, finished_operators t);
           };
     }
 
@@ -92,31 +92,31 @@ pub record Succeeds (l : Lent) (room : Room) : Type 0 where
 
 module _ (l : Lent) (room : Room) where
   -- The ways out, in order.
-  pub by-tables : (n : ℕ) → refusal l ≡ suc n → compiling l room ≡ nothing_given (suc n) room
+  pub by_tables : (n : ℕ) → refusal l ≡ suc n → compiling l room ≡ nothing_given (suc n) room
   unfolding compiling compile_refusal outcome_by
-  by-tables n e = rw (e, eqb-suc-zero n)
+  by_tables n e = rw (e, eqb-suc-zero n)
 
-  pub by-twins : refusal l ≡ 0 → (l.head.twins ≡ 0 → ⊥) → compiling l room ≡ nothing_given 13 room
+  pub by_twins : refusal l ≡ 0 → (l.head.twins ≡ 0 → ⊥) → compiling l room ≡ nothing_given 13 room
   unfolding compiling compile_refusal outcome_by
-  by-twins e n = rw (e, ne_eqb l.head.twins 0 n)
+  by_twins e n = rw (e, ne_eqb l.head.twins 0 n)
 
-  pub by-scratch :
+  pub by_scratch :
       refusal l ≡ 0
       → l.head.twins ≡ 0
       → room.scratch < 2 * l.head.formulas + 2 * l.head.effects
       → compiling l room ≡ nothing_given 14 room
   unfolding compiling compile_refusal outcome_by compile_scratch_kept
-  by-scratch e w h =
+  by_scratch e w h =
       rw (e, eq-eqb l.head.twins 0 w, lt-leb (2 * l.head.formulas + 2 * l.head.effects) room.scratch h)
 
-  pub by-room :
+  pub by_room :
       refusal l ≡ 0
       → l.head.twins ≡ 0
       → 2 * l.head.formulas + 2 * l.head.effects ≤ room.scratch
       → (Fits (finished (task_of l)) room → ⊥)
       → compiling l room ≡ nothing_given 15 room
   unfolding compiling compile_refusal outcome_by compile_scratch_kept
-  by-room e w h n =
+  by_room e w h n =
       rw (
         e,
         eq-eqb l.head.twins 0 w,
@@ -173,9 +173,9 @@ module _ (l : Lent) (room : Room) where
           }
 
   -- it answers a head exactly if nothing refuses it
-  pub given-compiles : (h : Head) → (compiling l room).answer ≡ compiled_head h → Succeeds l room
+  pub given_compiles : (h : Head) → (compiling l room).answer ≡ compiled_head h → Succeeds l room
   unfolding compiling
-  given-compiles h e = go (compile_refusal l room) refl
+  given_compiles h e = go (compile_refusal l room) refl
     where
       go : (n : ℕ) → compile_refusal l room ≡ n → Succeeds l room
       go zero f = none_refused f
@@ -185,9 +185,9 @@ module _ (l : Lent) (room : Room) where
           absurd (omega arith)
 
   -- what a refusal leaves
-  pub refused-leaves : (n : ℕ) → (compiling l room).answer ≡ not_compiled n → compiling l room ≡ nothing_given n room
+  pub refused_leaves : (n : ℕ) → (compiling l room).answer ≡ not_compiled n → compiling l room ≡ nothing_given n room
   unfolding compiling outcome_by
-  refused-leaves n e = go (compile_refusal l room) refl
+  refused_leaves n e = go (compile_refusal l room) refl
     where
       go : (m : ℕ) → compile_refusal l room ≡ m → compiling l room ≡ nothing_given n room
       go zero f =
@@ -203,12 +203,12 @@ module _ (l : Lent) (room : Room) where
   unfolding nothing_given
   told_number n e = ap (λ (o : CompileOutcome). o.answer) e
 
-  told-head : Succeeds l room → (compiling l room).answer ≡ compiled_head (head_of (finished (task_of l)))
+  told_head : Succeeds l room → (compiling l room).answer ≡ compiled_head (head_of (finished (task_of l)))
   unfolding task_given
-  told-head c = ap (λ (o : CompileOutcome). o.answer) (succeeds c)
+  told_head c = ap (λ (o : CompileOutcome). o.answer) (succeeds c)
 
-  other-number : (m n : ℕ) → (m ≡ n → ⊥) → (compiling l room).answer ≡ not_compiled m → (compiling l room).answer ≡ not_compiled n → ⊥
-  other-number m n differ p q =
+  other_number : (m n : ℕ) → (m ≡ n → ⊥) → (compiling l room).answer ≡ not_compiled m → (compiling l room).answer ≡ not_compiled n → ⊥
+  other_number m n differ p q =
       let same : m ≡ n = cc in
       differ same
 
@@ -221,26 +221,26 @@ module _ (l : Lent) (room : Room) where
 
       scratch : refusal l ≡ 0 → l.head.twins ≡ 0 → (b : Bool) → leb needed room.scratch ≡ b → ⊥
       scratch z w false f =
-          other-number 14 15 (λ q. omega arith) (told_number 14 (by-scratch z w (leb-false needed room.scratch f))) e
+          other_number 14 15 (λ q. omega arith) (told_number 14 (by_scratch z w (leb-false needed room.scratch f))) e
       scratch z w true f =
-          let p = told-head (record { passes = z; untwinned = w; scratch = leb-true needed room.scratch f; fits = k }) in
+          let p = told_head (record { passes = z; untwinned = w; scratch = leb-true needed room.scratch f; fits = k }) in
           let q : ◌≡◌ {A = ℕ} 0 1 = cc in
           omega arith
 
       twins : refusal l ≡ 0 → (b : Bool) → eqb l.head.twins 0 ≡ b → ⊥
       twins z false f =
-          other-number 13 15 (λ q. omega arith) (told_number 13 (by-twins z (eqb-false l.head.twins 0 f))) e
+          other_number 13 15 (λ q. omega arith) (told_number 13 (by_twins z (eqb-false l.head.twins 0 f))) e
       twins z true f = scratch z (eqb-true l.head.twins 0 f) (leb needed room.scratch) refl
 
       tables : (n : ℕ) → refusal l ≡ n → ⊥
       tables zero z = twins z (eqb l.head.twins 0) refl
       tables (suc n) z =
-          other-number (suc n) 15 (λ q. not_between (rw z at (refusal_own l)) (omega arith) (omega arith)) (told_number (suc n) (by-tables n z)) e
+          other_number (suc n) 15 (λ q. not_between (rw z at (refusal_own l)) (omega arith) (omega arith)) (told_number (suc n) (by_tables n z)) e
 
   -- scratch always ends as 0
-  pub scratch-ends : (compiling l room).scratch ≡ replicate room.scratch 0
+  pub scratch_ends : (compiling l room).scratch ≡ replicate room.scratch 0
   unfolding compiling outcome_by
-  scratch-ends = go (compile_refusal l room)
+  scratch_ends = go (compile_refusal l room)
     where
       go : (n : ℕ) → (outcome_by n (finished (task_of l)) room).scratch ≡ replicate room.scratch 0
       go zero = unfold task_given in refl
@@ -248,22 +248,22 @@ module _ (l : Lent) (room : Room) where
 
 -- Where compiling succeeds.
 module _ (l : Lent) (room : Room) (h : Head) (success : (compiling l room).answer ≡ compiled_head h) where
-  pub source-rules : Checked (task_of l)
-  source-rules = (kept-rules l (given-compiles l room h success).passes).1
+  pub source_rules : Checked (task_of l)
+  source_rules = (kept_rules l (given_compiles l room h success).passes).1
 
   -- the answer and the outputs are those of the finished task
-  pub given-outcome : compiling l room ≡ task_given (finished (task_of l)) room
-  given-outcome = succeeds l room (given-compiles l room h success)
+  pub given_outcome : compiling l room ≡ task_given (finished (task_of l)) room
+  given_outcome = succeeds l room (given_compiles l room h success)
 
-  pub given-head : h ≡ head_of (finished (task_of l))
-  given-head =
-      let told = told-head l room (given-compiles l room h success) in
+  pub given_head : h ≡ head_of (finished (task_of l))
+  given_head =
+      let told = told_head l room (given_compiles l room h success) in
       cc
 
   tail : ℕ → List ℕ → List ℕ
   tail n words = replicate (n - length words) 0
 
-  given-lent :
+  given_lent :
       given h (compiling l room)
       ≡ lent_in (finished (task_of l))
       (tail room.initial (finished (task_of l)).initial)
@@ -272,21 +272,21 @@ module _ (l : Lent) (room : Room) (h : Head) (success : (compiling l room).answe
       (tail room.effects (words_of (finished (task_of l)).effects))
       (tail room.operators (operator_words (finished (task_of l)).operators))
   unfolding lent_in tail task_given padded
-  given-lent = rw (given-outcome, given-head)
+  given_lent = rw (given_outcome, given_head)
 
   -- the tables that compiling gave hold the finished task, and pass the check
-  pub given-task : task_of (given h (compiling l room)) ≡ finished (task_of l)
-  given-task = ap task_of given-lent ∙ task-in (finished (task_of l)) _ _ _ _ _
+  pub given_task : task_of (given h (compiling l room)) ≡ finished (task_of l)
+  given_task = ap task_of given_lent ∙ task_in (finished (task_of l)) _ _ _ _ _
 
-  pub given-passes : refusal (given h (compiling l room)) ≡ 0
-  given-passes =
-      ap refusal given-lent
+  pub given_passes : refusal (given h (compiling l room)) ≡ 0
+  given_passes =
+      ap refusal given_lent
       ∙ kept_in (finished (task_of l)) _ _ _ _ _
-      (finished-rules (task_of l) source-rules (given-compiles l room h success).fits.limits)
+      (finished_rules (task_of l) source_rules (given_compiles l room h success).fits.limits)
 
   -- it is positive and flat
-  pub given-positive : Positive (task_of (given h (compiling l room)))
-  given-positive = rw given-task (positive (task_of l) source-rules)
+  pub given_positive : Positive (task_of (given h (compiling l room)))
+  given_positive = rw given_task (positive (task_of l) source_rules)
 
-  pub given-flat : (o : ℕ) → Flat (effect_of_operator (task_of (given h (compiling l room))) o)
-  given-flat o = rw given-task (flat (task_of l) o)
+  pub given_flat : (o : ℕ) → Flat (effect_of_operator (task_of (given h (compiling l room))) o)
+  given_flat o = rw given_task (flat (task_of l) o)

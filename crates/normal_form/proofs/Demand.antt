@@ -16,10 +16,10 @@ use Rattle.task.specs.Run.{operator_of, effect_of_operator, applicable, charge, 
 use Rattle.task.specs.Corresponding.{Corresponding}
 use Rattle.normal_form.specs.Finished.{built, twin_values, finished}
 use Rattle.normal_form.specs.Alike.{Alike, Outside}
-use Rattle.normal_form.proofs.ShapeFinished.{finished-operators}
-use Rattle.normal_form.proofs.ShapePassed.{finished-rules}
-use Rattle.normal_form.proofs.MeaningFinished.{same-goal, same-applicable, same_cost, same-charge}
-use Rattle.normal_form.proofs.MeaningStep.{length_apply, correspond-after}
+use Rattle.normal_form.proofs.ShapeFinished.{finished_operators}
+use Rattle.normal_form.proofs.ShapePassed.{finished_rules}
+use Rattle.normal_form.proofs.MeaningFinished.{same_goal, same_applicable, same_cost, same_charge}
+use Rattle.normal_form.proofs.MeaningStep.{length_apply, correspond_after}
 
 -- The initial states correspond.
 pub map_at : (f : ℕ → ℕ) (l : List ℕ) (k : ℕ) → k < length l → get_or (map f l) k 0 ≡ f (get_or l k 0)
@@ -71,13 +71,13 @@ record Abreast (t : Task) (p p' : Progress) : Type 0 where
   cost : p.cost ≡ p'.cost
 
 module _ (t : Task) (rules : Checked t) where
-  alike-answer :
+  alike_answer :
       (p p' : Progress) (reason : Stop)
       → Abreast t p p'
       → Alike (finished t).originals (answer t p reason) (answer (finished t) p' reason)
   unfolding answer is_plan
-  alike-answer p p' reason a =
-      let g = sym (same-goal t rules p.state p'.state a.wide a.states) in
+  alike_answer p p' reason a =
+      let g = sym (same_goal t rules p.state p'.state a.wide a.states) in
       record {
         states = a.states;
         steps = a.steps;
@@ -87,28 +87,28 @@ module _ (t : Task) (rules : Checked t) where
         plan = ap (λ (b : Bool). cond (unstopped reason) b false) g;
       }
 
-  abreast-after :
+  abreast_after :
       (p p' : Progress) (o : ℕ)
       → o < length t.operators
       → Abreast t p p'
       → Abreast t (after_step t p o) (after_step (finished t) p' o)
   unfolding after_step charge
-  abreast-after p p' o h a =
+  abreast_after p p' o h a =
       record {
         wide = length_apply p.state (effect_of_operator t o) ∙ a.wide;
-        states = correspond-after t rules p.state p'.state a.wide a.states o h;
+        states = correspond_after t rules p.state p'.state a.wide a.states o h;
         steps = ap (λ (k : ℕ). k + 1) a.steps;
-        cost = ap₂ ◌+◌ a.cost (sym (same-charge t rules p.state p'.state a.wide a.states o h));
+        cost = ap₂ ◌+◌ a.cost (sym (same_charge t rules p.state p'.state a.wide a.states o h));
       }
 
-  run-alike :
+  run_alike :
       (numbers : List ℕ) (p p' : Progress)
       → Abreast t p p'
       → Alike (finished t).originals (run_on t p numbers) (run_on (finished t) p' numbers)
   unfolding run_on
-  run-alike [] p p' a = alike-answer p p' ended a
-  run-alike (o ∷ rest) p p' a =
-      below (ltb o (length t.operators)) refl (run-alike rest (after_step t p o) (after_step (finished t) p' o))
+  run_alike [] p p' a = alike_answer p p' ended a
+  run_alike (o ∷ rest) p p' a =
+      below (ltb o (length t.operators)) refl (run_alike rest (after_step t p o) (after_step (finished t) p' o))
     where
       later : Type 0
       later =
@@ -117,7 +117,7 @@ module _ (t : Task) (rules : Checked t) where
           (run_on (finished t) (after_step (finished t) p' o) rest)
 
       count : ltb o (length (finished t).operators) ≡ ltb o (length t.operators)
-      count = ap (ltb o) (finished-operators t)
+      count = ap (ltb o) (finished_operators t)
 
       may :
           (b : Bool)
@@ -127,12 +127,12 @@ module _ (t : Task) (rules : Checked t) where
           → Alike (finished t).originals (run_on t p (o ∷ rest)) (run_on (finished t) p' (o ∷ rest))
       may true e l k =
           let h : o < length t.operators = ltb-true o (length t.operators) l in
-          rw (run_step t p o rest l e, run_step (finished t) p' o rest (count ∙ l) (same-applicable t rules p.state p'.state a.wide a.states o h ∙ e))
-          (k (abreast-after p p' o h a))
+          rw (run_step t p o rest l e, run_step (finished t) p' o rest (count ∙ l) (same_applicable t rules p.state p'.state a.wide a.states o h ∙ e))
+          (k (abreast_after p p' o h a))
       may false e l k =
           let h : o < length t.operators = ltb-true o (length t.operators) l in
-          rw (run_refused t p o rest l e, run_refused (finished t) p' o rest (count ∙ l) (same-applicable t rules p.state p'.state a.wide a.states o h ∙ e))
-          (alike-answer p p' (stopped 18) a)
+          rw (run_refused t p o rest l e, run_refused (finished t) p' o rest (count ∙ l) (same_applicable t rules p.state p'.state a.wide a.states o h ∙ e))
+          (alike_answer p p' (stopped 18) a)
 
       below :
           (b : Bool)
@@ -141,7 +141,7 @@ module _ (t : Task) (rules : Checked t) where
           → Alike (finished t).originals (run_on t p (o ∷ rest)) (run_on (finished t) p' (o ∷ rest))
       below true e k = may (applicable t p.state o) refl e k
       below false e k =
-          rw (run_outside t p o rest e, run_outside (finished t) p' o rest (count ∙ e)) (alike-answer p p' (stopped 17) a)
+          rw (run_outside t p o rest e, run_outside (finished t) p' o rest (count ∙ e)) (alike_answer p p' (stopped 17) a)
 
 -- From corresponding states, whatever the list of operator numbers, the two plain runs are alike: one claim about the whole list. Neither
 -- W 0 nor the limits of the finished task are needed.
@@ -155,15 +155,15 @@ pub alike_from :
     → Alike (finished t).originals (plain_run t s numbers) (plain_run (finished t) s' numbers)
 unfolding plain_run
 alike_from t rules s s' width states numbers =
-    run-alike t rules numbers (record { state = s; steps = 0; cost = 0 }) (record { state = s'; steps = 0; cost = 0 })
+    run_alike t rules numbers (record { state = s; steps = 0; cost = 0 }) (record { state = s'; steps = 0; cost = 0 })
     (record { wide = width; states = states; steps = refl; cost = refl })
 
 -- The finished task keeps the rules that the source keeps, the range of costs among them, where it keeps the limits.
 pub finished_keeps : (t : Task) → Rules t → Limits (finished t) → Rules (finished t)
 unfolding operator_of
 finished_keeps t r limits =
-    rules_with_costs (finished t) (finished-rules t c limits) (λ o h.
-    let b : o < length t.operators = rw (finished-operators t) at h in
+    rules_with_costs (finished t) (finished_rules t c limits) (λ o h.
+    let b : o < length t.operators = rw (finished_operators t) at h in
     rw (cost-kept o b) (r.cost o b))
   where
     c : Checked t
@@ -188,4 +188,4 @@ not_inside t o h =
 
 -- Outside the source is outside the finished task.
 pub outside : (t : Task) → (o : ℕ) → length t.operators ≤ o → Outside t o × Outside (finished t) o
-outside t o h = (not_inside t o h, not_inside (finished t) o (omega (arith, finished-operators t)))
+outside t o h = (not_inside t o h, not_inside (finished t) o (omega (arith, finished_operators t)))

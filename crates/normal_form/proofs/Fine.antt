@@ -13,7 +13,7 @@ use Rattle.task.specs.Inner.Rows.{FormulaKept, FormulasDown}
 use Rattle.task.proofs.Down.{formulas_none, formulas_more, formulas_wider}
 use Rattle.normal_form.specs.Builder.{St, including, same_row, row, twin, start}
 pub use Rattle.normal_form.specs.Positive.{PositiveKind}
-use Rattle.normal_form.proofs.Place.{one_more, Placed, found, added, placed, place-below, place-has, same_row_alike}
+use Rattle.normal_form.proofs.Place.{one_more, Placed, found, added, placed, place_below, place_has, same_row_alike}
 
 -- What the allowed kinds of rows have at least: all that images and joins build. A compiled task allows only positive kinds, a translated one all.
 pub record Joins (allowed : FormulaKind → Type 0) : Type 0 where
@@ -101,11 +101,11 @@ fine_row {allowed} n s r f rule p = go (placed same_row r s.rows)
 
 pub row_below : (r : Row) (s : St) → (row r s).value < length (row r s).st.rows
 unfolding row
-row_below r s = place-below same_row r s.rows
+row_below r s = place_below same_row r s.rows
 
 pub row_has : (r : Row) (s : St) → get_or (row r s).st.rows (row r s).value no_row ≡ r
 unfolding row
-row_has r s = place-has same_row r (λ y. same_row_alike y r) no_row s.rows
+row_has r s = place_has same_row r (λ y. same_row_alike y r) no_row s.rows
 
 -- one more twin, of a source variable that has none
 pub fine_more_twins :

@@ -25,11 +25,11 @@ module _ {A : Type 0} where
   pub longer : (l m : List A) → Prefix l m → length l ≤ length m
   longer l m p = omega (arith, ap length p.whole ∙ length-append l p.rest)
 
-  pub prefix-below : {l m : List A} → Prefix l m → (k : ℕ) → k < length l → k < length m
-  prefix-below {l} {m} p k h = omega (arith, longer l m p)
+  pub prefix_below : {l m : List A} → Prefix l m → (k : ℕ) → k < length l → k < length m
+  prefix_below {l} {m} p k h = omega (arith, longer l m p)
 
-  pub prefix-at : (l m : List A) (d : A) (k : ℕ) → Prefix l m → k < length l → get_or m k d ≡ get_or l k d
-  prefix-at l m d k p h = rw p.whole (get_or-append l p.rest d k h)
+  pub prefix_at : (l m : List A) (d : A) (k : ℕ) → Prefix l m → k < length l → get_or m k d ≡ get_or l k d
+  prefix_at l m d k p h = rw p.whole (get_or-append l p.rest d k h)
 
 pub grows_refl : (s : St) → Grows s s
 grows_refl s = record { rows = prefix_refl s.rows; twins = prefix_refl s.twins }
@@ -39,20 +39,20 @@ grows_trans g h = record { rows = prefix_trans g.rows h.rows; twins = prefix_tra
 
 -- Find or append, with a test under which each is the same as itself.
 module _ {A : Type 0} (same : A → A → Bool) (itself : (x : A) → same x x ≡ true) (x : A) where
-  pub kept-prefix : (l : List A) → Prefix l (including same x l)
+  pub kept_prefix : (l : List A) → Prefix l (including same x l)
   unfolding including
-  kept-prefix [] = record { rest = x ∷ []; whole = refl }
-  kept-prefix (y ∷ ys) = go (same y x) (kept-prefix ys)
+  kept_prefix [] = record { rest = x ∷ []; whole = refl }
+  kept_prefix (y ∷ ys) = go (same y x) (kept_prefix ys)
     where
       go : (b : Bool) → Prefix ys (including same x ys) → Prefix (y ∷ ys) (cond b (y ∷ ys) (y ∷ including same x ys))
       go true p = prefix_refl (y ∷ ys)
       go false p = record { rest = p.rest; whole = ap {B = List A} (λ r. y ∷ r) p.whole }
 
   -- in a list that goes on from there x stands at the same place, and nothing is added
-  pub place-again : (l rest : List A) → place same x (including same x l ++ rest) ≡ place same x l
+  pub place_again : (l rest : List A) → place same x (including same x l ++ rest) ≡ place same x l
   unfolding including place
-  place-again [] rest = rw (itself x)
-  place-again (y ∷ ys) rest = go (same y x) refl (place-again ys rest)
+  place_again [] rest = rw (itself x)
+  place_again (y ∷ ys) rest = go (same y x) refl (place_again ys rest)
     where
       go :
           (b : Bool)
@@ -77,10 +77,10 @@ module _ {A : Type 0} (same : A → A → Bool) (itself : (x : A) → same x x �
 
   -- the same, of a list that has it as its prefix
   pub place_within : (l : List A) {m : List A} → Prefix (including same x l) m → place same x m ≡ place same x l
-  place_within l p = rw p.whole (place-again l p.rest)
+  place_within l p = rw p.whole (place_again l p.rest)
 
-  pub kept-within : (l : List A) {m : List A} → Prefix (including same x l) m → including same x m ≡ m
-  kept-within l p = rw p.whole (kept_again l p.rest)
+  pub kept_within : (l : List A) {m : List A} → Prefix (including same x l) m → including same x m ≡ m
+  kept_within l p = rw p.whole (kept_again l p.rest)
 
 pub same_row_itself : (r : Row) → same_row r r ≡ true
 unfolding same_row
@@ -108,20 +108,20 @@ pub steady_row : (r : Row) → Steady (row r)
 unfolding row
 steady_row r =
     record {
-      grow = λ s. record { rows = kept-prefix same_row same_row_itself r s.rows; twins = prefix_refl s.twins };
+      grow = λ s. record { rows = kept_prefix same_row same_row_itself r s.rows; twins = prefix_refl s.twins };
       again = λ s t g.
           let p : Prefix (including same_row r s.rows) t.rows = g.rows in
-          rw (place_within same_row same_row_itself r s.rows p, kept-within same_row same_row_itself r s.rows p);
+          rw (place_within same_row same_row_itself r s.rows p, kept_within same_row same_row_itself r s.rows p);
     }
 
 pub steady_twin : (v : ℕ) → Steady (twin v)
 unfolding twin
 steady_twin v =
     record {
-      grow = λ s. record { rows = prefix_refl s.rows; twins = kept-prefix eqb eqb_itself v s.twins };
+      grow = λ s. record { rows = prefix_refl s.rows; twins = kept_prefix eqb eqb_itself v s.twins };
       again = λ s t g.
           let p : Prefix (including eqb v s.twins) t.twins = g.twins in
-          rw (place_within eqb eqb_itself v s.twins p, kept-within eqb eqb_itself v s.twins p);
+          rw (place_within eqb eqb_itself v s.twins p, kept_within eqb eqb_itself v s.twins p);
     }
 
 pub steady_variable_row : (v : ℕ) → Steady (variable_row v)

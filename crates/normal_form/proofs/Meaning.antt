@@ -12,11 +12,11 @@ use Rattle.task.specs.Rules.{no_row}
 use Rattle.task.specs.Semantics.{Formula, holds}
 use Rattle.task.specs.Tree.{formula_node, formula_of}
 use Rattle.task.specs.Corresponding.{Corresponding}
-use Rattle.task.proofs.Trees.{formula-unfolds, formula-grows}
+use Rattle.task.proofs.Trees.{formula_unfolds, formula_grows}
 use Rattle.task.specs.Inner.Rows.{FormulaKept, FormulasDown}
 use Rattle.normal_form.specs.Builder.{St, Got, Build, give, bind, row, Polarity, plain, negated, image_of_false, image_of_true, join_kind, Choice, absorbed, only_left, only_right, own_row, choice, join_as, join, pair}
 use Rattle.normal_form.specs.Growth.{Prefix, Grows, Steady}
-pub use Rattle.normal_form.proofs.Growth.{longer, prefix-at}
+pub use Rattle.normal_form.proofs.Growth.{longer, prefix_at}
 use Rattle.normal_form.proofs.Growth.{prefix_trans, steady_row}
 use Rattle.normal_form.proofs.Fine.{Joins, Fine, fine_row, row_below, row_has}
 
@@ -59,7 +59,7 @@ means_later {n = n} {b = b} {s = s} {t = t} {a = a} f g m =
           λ w.
           rw g.rows.whole
           (ap (holds w.compiled)
-          (formula-grows (n + length s.twins) s.rows f.down g.rows.rest a m.below)
+          (formula_grows (n + length s.twins) s.rows f.down g.rows.rest a m.below)
           ∙ m.value (seen_before g w));
     }
 
@@ -100,7 +100,7 @@ pub row_unfolds :
     → i < length rows
     → get_or rows i no_row ≡ r
     → formula_of rows i ≡ formula_node (formula_kind r.kind) r.a (formula_of rows r.a) (formula_of rows r.b)
-row_unfolds v rows i r down h e = formula-unfolds v rows down i h ∙ rw e
+row_unfolds v rows i r down h e = formula_unfolds v rows down i h ∙ rw e
 
 means_zero : {allowed : FormulaKind → Type 0} {n : ℕ} {s : St} → Fine allowed n s → Means n (λ source. false) s 0
 unfolding formula_kind formula_node holds
@@ -247,12 +247,12 @@ good_row {allowed} {n} q s f kept kind said =
 
 module _ {allowed : FormulaKind → Type 0} {n : ℕ} {x y : List ℕ → Bool} (s : St) (a b : ℕ) (f : Fine allowed n s) (l : Means n x s a) (r : Means n y s b) where
   -- a connective's row over two that stand
-  pub good-connected :
+  pub good_connected :
       {kind : ℕ} {says : Bool → Bool → Bool}
       → Connects kind says
       → allowed (formula_kind kind)
       → Good allowed n (Means n (λ source. says (x source) (y source))) (row (record { kind = kind; a = a; b = b }) s)
-  good-connected {kind} {says} c k =
+  good_connected {kind} {says} c k =
       let q : Row = record { kind = kind; a = a; b = b } in
       let u = (row q s).st in
       let l' = means_later f ((steady_row q).grow s) l in
@@ -263,27 +263,27 @@ module _ {allowed : FormulaKind → Type 0} {n : ℕ} {x y : List ℕ → Bool} 
       ∙ ap₂ says (l'.value w) (r'.value w))
 
 module _ {allowed : FormulaKind → Type 0} (joins : Joins allowed) {n : ℕ} {x y : List ℕ → Bool} (p : Polarity) (s : St) (a b : ℕ) (f : Fine allowed n s) (l : Means n x s a) (r : Means n y s b) where
-  good-joined : (c : Choice) → Folded p a b c → Good allowed n (Means n (λ source. meet p (x source) (y source))) (join_as p c a b s)
+  good_joined : (c : Choice) → Folded p a b c → Good allowed n (Means n (λ source. meet p (x source) (y source))) (join_as p c a b s)
   unfolding join_as
-  good-joined absorbed (left_false e) =
+  good_joined absorbed (left_false e) =
       good_give (image_of_false p) s f
       (means_as _ (means_falsity p f)
       (λ w. meet_false_left p (x w.source) (y w.source) (means_alike l (means_falsity p f) e w)))
-  good-joined absorbed (right_false e) =
+  good_joined absorbed (right_false e) =
       good_give (image_of_false p) s f
       (means_as _ (means_falsity p f)
       (λ w. meet_false_right p (x w.source) (y w.source) (means_alike r (means_falsity p f) e w)))
-  good-joined only_right (left_true e) =
+  good_joined only_right (left_true e) =
       good_give b s f
       (means_as _ r (λ w. meet_true_left p (x w.source) (y w.source) (means_alike l (means_truth p f) e w)))
-  good-joined only_left (right_true e) =
+  good_joined only_left (right_true e) =
       good_give a s f
       (means_as _ l (λ w. meet_true_right p (x w.source) (y w.source) (means_alike r (means_truth p f) e w)))
-  good-joined own_row neither = good-connected s a b f l r (join_connects p) (join_allowed joins p)
+  good_joined own_row neither = good_connected s a b f l r (join_connects p) (join_allowed joins p)
 
-  pub good-join : Good allowed n (Means n (λ source. meet p (x source) (y source))) (join p a b s)
+  pub good_join : Good allowed n (Means n (λ source. meet p (x source) (y source))) (join p a b s)
   unfolding join
-  good-join = good-joined (choice p a b) (folded p a b)
+  good_join = good_joined (choice p a b) (folded p a b)
 
 -- a pair: left, right, then the join
 pub good_pair :
@@ -298,4 +298,4 @@ good_pair joins {n} {x} {y} p l r s steady gl gr =
     (λ f m.
     let t = (l s).st in
     good_bind {Q = Means n (λ source. meet p (x source) (y source))} r (λ b. join p (l s).value b) t (gr t f)
-    (λ f' m'. good-join joins p (r t).st (l s).value (r t).value f' (means_later f (steady.grow t) m) m'))
+    (λ f' m'. good_join joins p (r t).st (l s).value (r t).value f' (means_later f (steady.grow t) m) m'))

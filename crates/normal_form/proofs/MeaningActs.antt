@@ -20,17 +20,17 @@ or_regroup true y z = refl
 or_regroup false y z = refl
 
 module _ (formulas : List Row) (c : List ℕ) (l : Atom) where
-  acts-on :
+  acts_on :
       (e : Effect) (rs : List Rule)
       → effcond c l (chain_on formulas e rs) ≡ (effcond c l e || acts formulas c l rs)
   unfolding chain_on conjunct effcond acts
-  acts-on e [] = sym (or-false (effcond c l e))
-  acts-on e (r ∷ rs) =
-      acts-on _ rs
+  acts_on e [] = sym (or-false (effcond c l e))
+  acts_on e (r ∷ rs) =
+      acts_on _ rs
       ∙ or_regroup (effcond c l e) (holds c (formula_of formulas r.condition) && same_atom l r.atom)
       (acts formulas c l rs)
 
-  pub acts-chain : (rs : List Rule) → effcond c l (chain formulas rs) ≡ acts formulas c l rs
+  pub acts_chain : (rs : List Rule) → effcond c l (chain formulas rs) ≡ acts formulas c l rs
   unfolding chain conjunct effcond acts
-  acts-chain [] = refl
-  acts-chain (r ∷ rs) = acts-on (conjunct formulas r) rs
+  acts_chain [] = refl
+  acts_chain (r ∷ rs) = acts_on (conjunct formulas r) rs

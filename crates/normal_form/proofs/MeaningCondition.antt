@@ -11,9 +11,9 @@ use Rattle.normal_form.specs.Builder.{St, give, bind, join, Polarity, plain, neg
 use Rattle.normal_form.specs.Growth.{Steady}
 use Rattle.normal_form.specs.Conditions.{Becoming, guarded, condition}
 use Rattle.normal_form.specs.Operators.{Changes, deletes_of, changes_of}
-use Rattle.normal_form.proofs.Steady.{steady-condition, steady-deletes}
+use Rattle.normal_form.proofs.Steady.{steady_condition, steady_deletes}
 use Rattle.normal_form.proofs.Fine.{Joins, Fine}
-use Rattle.normal_form.proofs.Meaning.{Means, Good, means_as, means_later, means_alike, means_falsity, means_truth, good_bind, good_give, good-join, good_pair, sense}
+use Rattle.normal_form.proofs.Meaning.{Means, Good, means_as, means_later, means_alike, means_falsity, means_truth, good_bind, good_give, good_join, good_pair, sense}
 use Rattle.normal_form.proofs.MeaningImage.{Over, good_as, sense_and, sense_or}
 
 -- an effect whose formulas are over n variables
@@ -42,14 +42,14 @@ sense_none p false y e = e
 -- What a formula becomes on side p: something steady, of its meaning there.
 module _ {allowed : FormulaKind → Type 0} (joins : Joins allowed) (becomes : Becoming) (steady : (p : Polarity) (f : Formula) → Steady (becomes p f)) {n : ℕ}
     (p : Polarity) (good : GoodBecoming allowed n becomes p) where
-  good-guarded :
+  good_guarded :
       (x : List ℕ → Bool) (f : Formula) (c : ℕ) (s : St)
       → Over n f
       → Fine allowed n s
       → Means n (λ source. sense p (x source)) s c
       → Good allowed n (Means n (λ source. sense p (holds source f && x source))) (guarded becomes p f c s)
   unfolding guarded
-  good-guarded x f c s o fine m = go (eqb c (image_of_false p)) refl
+  good_guarded x f c s o fine m = go (eqb c (image_of_false p)) refl
     where
       go :
           (b : Bool)
@@ -67,28 +67,28 @@ module _ {allowed : FormulaKind → Type 0} (joins : Joins allowed) (becomes : B
           (good f s o fine)
           (λ fine' m'.
           good_as (λ source. sense p (holds source f && x source))
-          (good-join joins p (becomes p f s).st (becomes p f s).value c fine' m'
+          (good_join joins p (becomes p f s).st (becomes p f s).value c fine' m'
           (means_later fine ((steady p f).grow s) m))
           (λ source. sense_and p (holds source f) (x source)))
 
-  pub good-condition :
+  pub good_condition :
       (l : Atom) (e : Effect) (s : St)
       → EffectOver n e
       → Fine allowed n s
       → Good allowed n (Means n (λ source. sense p (effcond source l e))) (condition becomes p l e s)
   unfolding condition effcond
-  good-condition l empty s o fine = good_give (image_of_false p) s fine (means_falsity p fine)
-  good-condition l (atomic m) s o fine = good_atomic p (same_atom l m) s fine
-  good-condition l (both e f) s o fine =
+  good_condition l empty s o fine = good_give (image_of_false p) s fine (means_falsity p fine)
+  good_condition l (atomic m) s o fine = good_atomic p (same_atom l m) s fine
+  good_condition l (both e f) s o fine =
       good_as (λ source. sense p (effcond source l e || effcond source l f))
-      (good_pair joins (opposite p) (condition becomes p l e) (condition becomes p l f) s (steady-condition becomes steady p l f)
-      (good-condition l e s o.0 fine) (λ t m. good-condition l f t o.1 m))
+      (good_pair joins (opposite p) (condition becomes p l e) (condition becomes p l f) s (steady_condition becomes steady p l f)
+      (good_condition l e s o.0 fine) (λ t m. good_condition l f t o.1 m))
       (λ source. sense_or p (effcond source l e) (effcond source l f))
-  good-condition l (under f e) s o fine =
+  good_condition l (under f e) s o fine =
       good_bind {Q = Means n (λ source. sense p (holds source f && effcond source l e))} (condition becomes p l e)
-      (λ c. guarded becomes p f c) s (good-condition l e s o.1 fine)
+      (λ c. guarded becomes p f c) s (good_condition l e s o.1 fine)
       (λ fine' m.
-      good-guarded (λ source. effcond source l e) f (condition becomes p l e s).value (condition becomes p l e s).st o.0 fine' m)
+      good_guarded (λ source. effcond source l e) f (condition becomes p l e s).value (condition becomes p l e s).st o.0 fine' m)
 
 -- what frees D of conflict with A
 abbrev pub freed : Effect → ℕ → List ℕ → Bool
@@ -110,7 +110,7 @@ pub record ChangesMean (n : ℕ) (e : Effect) (v : ℕ) (s : St) (c : Changes) :
 -- The same on both sides.
 module _ {allowed : FormulaKind → Type 0} (joins : Joins allowed) (becomes : Becoming) (steady : (p : Polarity) (f : Formula) → Steady (becomes p f)) {n : ℕ}
     (good : (p : Polarity) → GoodBecoming allowed n becomes p) where
-  good-deletes :
+  good_deletes :
       (e : Effect) (v a d : ℕ) (s : St)
       → EffectOver n e
       → Fine allowed n s
@@ -118,7 +118,7 @@ module _ {allowed : FormulaKind → Type 0} (joins : Joins allowed) (becomes : B
       → Means n (λ source. effcond source (clears v) e) s d
       → Good allowed n (Means n (freed e v)) (deletes_of becomes e v a d s)
   unfolding deletes_of
-  good-deletes e v a d s o fine ma md = first (eqb a 0) refl
+  good_deletes e v a d s o fine ma md = first (eqb a 0) refl
     where
       second :
           (b : Bool)
@@ -132,10 +132,10 @@ module _ {allowed : FormulaKind → Type 0} (joins : Joins allowed) (becomes : B
           (means_alike md (means_falsity plain fine) (eqb-true d 0 q) w)))
       second false q =
           good_bind {Q = Means n (freed e v)} (condition becomes negated (sets v) e) (λ c. join plain d c) s
-          (good-condition joins becomes steady negated (good negated) (sets v) e s o fine)
+          (good_condition joins becomes steady negated (good negated) (sets v) e s o fine)
           (λ fine' m.
-          good-join joins plain (condition becomes negated (sets v) e s).st d (condition becomes negated (sets v) e s).value fine'
-          (means_later fine ((steady-condition becomes steady negated (sets v) e).grow s) md) m)
+          good_join joins plain (condition becomes negated (sets v) e s).st d (condition becomes negated (sets v) e s).value fine'
+          (means_later fine ((steady_condition becomes steady negated (sets v) e).grow s) md) m)
 
       first :
           (b : Bool)
@@ -150,25 +150,25 @@ module _ {allowed : FormulaKind → Type 0} (joins : Joins allowed) (becomes : B
           (means_alike ma (means_falsity plain fine) (eqb-true a 0 q) w)))
       first false q = second (eqb d 0) refl
 
-  pub good-changes :
+  pub good_changes :
       (e : Effect) (v : ℕ) (s : St)
       → EffectOver n e
       → Fine allowed n s
       → Good allowed n (ChangesMean n e v) (changes_of becomes e v s)
   unfolding changes_of bind give
-  good-changes e v s o fine =
-      let ga = good-condition joins becomes steady plain (good plain) (sets v) e s o fine in
+  good_changes e v s o fine =
+      let ga = good_condition joins becomes steady plain (good plain) (sets v) e s o fine in
       let a = condition becomes plain (sets v) e s in
-      let gd = good-condition joins becomes steady plain (good plain) (clears v) e a.st o ga.fine in
+      let gd = good_condition joins becomes steady plain (good plain) (clears v) e a.st o ga.fine in
       let d = condition becomes plain (clears v) e a.st in
-      let ma = means_later ga.fine ((steady-condition becomes steady plain (clears v) e).grow a.st) ga.value in
-      let gk = good-deletes e v a.value d.value d.st o gd.fine ma gd.value in
+      let ma = means_later ga.fine ((steady_condition becomes steady plain (clears v) e).grow a.st) ga.value in
+      let gk = good_deletes e v a.value d.value d.st o gd.fine ma gd.value in
       record {
         fine = gk.fine;
         value =
             record {
               variable = refl;
-              adds = means_later gd.fine ((steady-deletes becomes steady e v a.value d.value).grow d.st) ma;
+              adds = means_later gd.fine ((steady_deletes becomes steady e v a.value d.value).grow d.st) ma;
               deletes = gk.value;
             };
       }

@@ -12,7 +12,7 @@ use Rattle.normal_form.specs.Copy.{over_two, copy, itself}
 use Rattle.normal_form.proofs.Growth.{steady_row}
 use Rattle.normal_form.proofs.Steady.{steady_copy}
 use Rattle.normal_form.proofs.Fine.{Fine, every_joins}
-use Rattle.normal_form.proofs.Meaning.{Means, Good, Connects, means_later, means_falsity, means_truth, good_bind, good_give, good_row, good-connected}
+use Rattle.normal_form.proofs.Meaning.{Means, Good, Connects, means_later, means_falsity, means_truth, good_bind, good_give, good_row, good_connected}
 use Rattle.normal_form.proofs.MeaningImage.{Over, good_original}
 use Rattle.normal_form.proofs.MeaningCondition.{GoodBecoming}
 
@@ -64,36 +64,36 @@ good_over_two {n = n} {x = x} {y = y} {kind = kind} {says = says} c k l r s stea
     let t = (l s).st in
     good_bind {Q = Means n (λ source. says (x source) (y source))} r (λ b. row (record { kind = kind; a = (l s).value; b = b })) t
     (gr t f)
-    (λ f' m'. good-connected (r t).st (l s).value (r t).value f' (means_later f (steady.grow t) m) m' c k))
+    (λ f' m'. good_connected (r t).st (l s).value (r t).value f' (means_later f (steady.grow t) m) m' c k))
 
 -- Where every kind is allowed.
 module _ {allowed : FormulaKind → Type 0} (every : (k : FormulaKind) → allowed k) {n : ℕ} where
-  pub good-copy :
+  pub good_copy :
       (f : Formula) (s : St)
       → Over n f
       → Fine allowed n s
       → Good allowed n (Means n (λ source. holds source f)) (copy f s)
   unfolding copy holds
-  good-copy falsum s o fine = good_give 0 s fine (means_falsity plain fine)
-  good-copy verum s o fine = good_give 1 s fine (means_truth plain fine)
-  good-copy (variable v) s o fine = good_original (every_joins every) s v fine o
-  good-copy (negation f) s o fine =
+  good_copy falsum s o fine = good_give 0 s fine (means_falsity plain fine)
+  good_copy verum s o fine = good_give 1 s fine (means_truth plain fine)
+  good_copy (variable v) s o fine = good_original (every_joins every) s v fine o
+  good_copy (negation f) s o fine =
       good_bind {Q = Means n (λ source. not (holds source f))} (copy f) (λ a. row (record { kind = 3; a = a; b = 0 })) s
-      (good-copy f s o fine) (λ fine' m. good_not (copy f s).st (copy f s).value fine' (every not_kind) m)
-  good-copy (conjunction f g) s o fine =
-      good_over_two connects_and (every (formula_kind 4)) (copy f) (copy g) s (steady_copy g) (good-copy f s o.0 fine)
-      (λ t m. good-copy g t o.1 m)
-  good-copy (disjunction f g) s o fine =
-      good_over_two connects_or (every (formula_kind 5)) (copy f) (copy g) s (steady_copy g) (good-copy f s o.0 fine)
-      (λ t m. good-copy g t o.1 m)
-  good-copy (implication f g) s o fine =
-      good_over_two connects_implies (every (formula_kind 6)) (copy f) (copy g) s (steady_copy g) (good-copy f s o.0 fine)
-      (λ t m. good-copy g t o.1 m)
-  good-copy (equivalence f g) s o fine =
-      good_over_two connects_equivalent (every (formula_kind 7)) (copy f) (copy g) s (steady_copy g) (good-copy f s o.0 fine)
-      (λ t m. good-copy g t o.1 m)
+      (good_copy f s o fine) (λ fine' m. good_not (copy f s).st (copy f s).value fine' (every not_kind) m)
+  good_copy (conjunction f g) s o fine =
+      good_over_two connects_and (every (formula_kind 4)) (copy f) (copy g) s (steady_copy g) (good_copy f s o.0 fine)
+      (λ t m. good_copy g t o.1 m)
+  good_copy (disjunction f g) s o fine =
+      good_over_two connects_or (every (formula_kind 5)) (copy f) (copy g) s (steady_copy g) (good_copy f s o.0 fine)
+      (λ t m. good_copy g t o.1 m)
+  good_copy (implication f g) s o fine =
+      good_over_two connects_implies (every (formula_kind 6)) (copy f) (copy g) s (steady_copy g) (good_copy f s o.0 fine)
+      (λ t m. good_copy g t o.1 m)
+  good_copy (equivalence f g) s o fine =
+      good_over_two connects_equivalent (every (formula_kind 7)) (copy f) (copy g) s (steady_copy g) (good_copy f s o.0 fine)
+      (λ t m. good_copy g t o.1 m)
 
   -- what it becomes in a translated task, on the side that such a task has
-  pub good-itself : GoodBecoming allowed n itself plain
+  pub good_itself : GoodBecoming allowed n itself plain
   unfolding itself
-  good-itself f s o fine = good-copy f s o fine
+  good_itself f s o fine = good_copy f s o fine

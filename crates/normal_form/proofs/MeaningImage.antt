@@ -14,9 +14,9 @@ use Rattle.normal_form.specs.Builder.{St, Got, bind, place, twin, variable_row, 
 use Rattle.normal_form.specs.Image.{literal, image}
 use Rattle.normal_form.proofs.Growth.{steady_row, steady_pair}
 use Rattle.normal_form.proofs.Steady.{steady_image}
-use Rattle.normal_form.proofs.Place.{place-below, place-has}
+use Rattle.normal_form.proofs.Place.{place_below, place_has}
 use Rattle.normal_form.proofs.Fine.{Joins, Fine, fine_twin}
-use Rattle.normal_form.proofs.Meaning.{Seen, seen_before, Means, Good, longer, prefix-at, means_as, means_falsity, means_truth, good_give, good_row, good_pair, sense, meet}
+use Rattle.normal_form.proofs.Meaning.{Seen, seen_before, Means, Good, longer, prefix_at, means_as, means_falsity, means_truth, good_give, good_row, good_pair, sense, meet}
 
 -- a formula over n variables
 abbrev pub Over : ℕ → Formula → Type 0
@@ -102,11 +102,11 @@ unfolding twin_row bind twin
 good_twin joins {n} s v f h =
     let u = (twin v s).st in
     let k = place eqb v s.twins in
-    good_variable joins u (n + k) (fine_twin n s v f h) (omega (arith, place-below eqb v s.twins))
+    good_variable joins u (n + k) (fine_twin n s v f h) (omega (arith, place_below eqb v s.twins))
     (λ w.
-    let b : k < length u.twins = place-below eqb v s.twins in
+    let b : k < length u.twins = place_below eqb v s.twins in
     let at : get_or w.final k 0 ≡ v =
-    prefix-at u.twins w.final 0 k w.ahead b ∙ place-has eqb v (λ y. eqb-true y v) 0 s.twins
+    prefix_at u.twins w.final 0 k w.ahead b ∙ place_has eqb v (λ y. eqb-true y v) 0 s.twins
     in
     let value : get_or w.compiled (n + k) 0 ≡ 1 - get_or w.source v 0 =
     rw (← w.width) (w.states.opposite k (omega (arith, longer u.twins w.final w.ahead)) ∙ rw at)

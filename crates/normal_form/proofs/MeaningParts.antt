@@ -19,12 +19,12 @@ use Rattle.normal_form.specs.Image.{image}
 use Rattle.normal_form.specs.Operators.{Changes, Built, Parts, changes_of, built_operator, parts}
 use Rattle.normal_form.specs.Finished.{built}
 use Rattle.normal_form.proofs.Growth.{steady_each}
-use Rattle.normal_form.proofs.Steady.{steady_image, steady-changes, steady_operator}
+use Rattle.normal_form.proofs.Steady.{steady_image, steady_changes, steady_operator}
 use Rattle.normal_form.proofs.Place.{one_more}
 use Rattle.normal_form.proofs.Fine.{PositiveKind, positive_joins, Fine, fine_start}
 use Rattle.normal_form.proofs.Meaning.{Means, Good, means_later}
 use Rattle.normal_form.proofs.MeaningImage.{Over, good_image}
-use Rattle.normal_form.proofs.MeaningCondition.{EffectOver, ChangesMean, good-changes}
+use Rattle.normal_form.proofs.MeaningCondition.{EffectOver, ChangesMean, good_changes}
 
 -- The source's formulas and effects are over its variables.
 over_node :
@@ -74,19 +74,19 @@ over_effect_node n v f i under_kind a b p d e r o l m = (o r.0, m r.1)
 over_effect_node n v f i unknown_effect a b p d e r o l m = tt
 
 module _ (n v : ℕ) (formulas effects : List Row) (fd : FormulasDown n formulas) (ed : EffectsDown v (length formulas) effects) where
-  over-effect-within : (d i : ℕ) → i < length effects → EffectOver n (effect_within d formulas effects i)
+  over_effect_within : (d i : ℕ) → i < length effects → EffectOver n (effect_within d formulas effects i)
   unfolding effect_within
-  over-effect-within zero i h = tt
-  over-effect-within (suc d) i h =
+  over_effect_within zero i h = tt
+  over_effect_within (suc d) i h =
       let r = get_or effects i no_row in
       over_effect_node n v (length formulas) i (effect_kind r.kind) r.a r.b (formula_of formulas r.a)
       (effect_within d formulas effects r.a) (effect_within d formulas effects r.b) (ed.row i h)
-      (λ l. over_formula n formulas fd r.a l) (λ l. over-effect-within d r.a (omega arith))
-      (λ l. over-effect-within d r.b (omega arith))
+      (λ l. over_formula n formulas fd r.a l) (λ l. over_effect_within d r.a (omega arith))
+      (λ l. over_effect_within d r.b (omega arith))
 
-  pub over-effect : (i : ℕ) → i < length effects → EffectOver n (effect_of formulas effects i)
+  pub over_effect : (i : ℕ) → i < length effects → EffectOver n (effect_of formulas effects i)
   unfolding effect_of
-  over-effect i h = over-effect-within (suc i) i h
+  over_effect i h = over_effect_within (suc i) i h
 
 -- A list with an element for each number below m, as P says.
 pub record Each {A : Type 0} (P : ℕ → A → Type 0) (m : ℕ) (l : List A) : Type 0 where
@@ -175,13 +175,13 @@ pub record PartsMean (t : Task) (s : St) (p : Parts) : Type 0 where
   pub goal : Means (length t.initial) (λ source. holds source (formula_of t.formulas t.goal)) s p.goal
 
 module _ (t : Task) (rules : Checked t) where
-  good-operator :
+  good_operator :
       (o : ℕ) (s : St)
       → o < length t.operators
       → Fine PositiveKind (length t.initial) s
       → Good PositiveKind (length t.initial) (BuiltMeans t o) (built_operator t o s)
   unfolding built_operator bind give operator_of effect_of_operator
-  good-operator o s h fine =
+  good_operator o s h fine =
       let n = length t.initial in
       let e = effect_of_operator t o in
       let pre = formula_of t.formulas (operator_of t o).precondition in
@@ -190,29 +190,29 @@ module _ (t : Task) (rules : Checked t) where
       let gp = good_image positive_joins plain pre s (over_formula n t.formulas down (operator_of t o).precondition rule.formula) fine in
       let p = image n plain pre s in
       let eo : EffectOver n e =
-      over-effect n n t.formulas t.effects down (rules_effects t rules) (operator_of t o).effect rule.changes
+      over_effect n n t.formulas t.effects down (rules_effects t rules) (operator_of t o).effect rule.changes
       in
       let gc =
-      good_each (ChangesMean n e) (changes_of (image n) e) (changes_later e) (steady-changes (image n) (steady_image n) e) n p.st
-      (λ v b u grown f. good-changes positive_joins (image n) (steady_image n) (good_image positive_joins) e v u eo f) gp.fine
+      good_each (ChangesMean n e) (changes_of (image n) e) (changes_later e) (steady_changes (image n) (steady_image n) e) n p.st
+      (λ v b u grown f. good_changes positive_joins (image n) (steady_image n) (good_image positive_joins) e v u eo f) gp.fine
       in
       record {
         fine = gc.fine;
         value =
             record {
-              precondition = means_later gp.fine ((steady_each n (steady-changes (image n) (steady_image n) e)).grow p.st) gp.value;
+              precondition = means_later gp.fine ((steady_each n (steady_changes (image n) (steady_image n) e)).grow p.st) gp.value;
               changes = gc.value;
               source = refl;
             };
       }
 
-  pub good-parts : Good PositiveKind (length t.initial) (PartsMean t) (built t)
+  pub good_parts : Good PositiveKind (length t.initial) (PartsMean t) (built t)
   unfolding built parts bind give
-  good-parts =
+  good_parts =
       let n = length t.initial in
       let go =
       good_each (BuiltMeans t) (built_operator t) (built_later t) (steady_operator t) (length t.operators) start
-      (λ o h s grown f. good-operator o s h f) (fine_start positive_joins n)
+      (λ o h s grown f. good_operator o s h f) (fine_start positive_joins n)
       in
       let os = each (length t.operators) (built_operator t) start in
       let goal = formula_of t.formulas t.goal in

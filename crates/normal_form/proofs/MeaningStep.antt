@@ -11,11 +11,11 @@ use Rattle.task.specs.Rules.{Checked}
 use Rattle.task.specs.Semantics.{Effect, empty, sets, clears, effcond, value_after, apply}
 use Rattle.task.specs.Run.{effect_of_operator}
 use Rattle.task.specs.Corresponding.{Corresponding}
-use Rattle.task.proofs.Bounded.{length-upto, getD-upto}
+use Rattle.task.proofs.Bounded.{length_upto, getD_upto}
 use Rattle.normal_form.specs.Finished.{finished}
-use Rattle.normal_form.proofs.MeaningParts.{good-parts}
-use Rattle.normal_form.proofs.ShapeFinished.{operator-past}
-use Rattle.normal_form.proofs.MeaningFinished.{sets-none, sets-original, clears-original, sets-twin, clears-twin}
+use Rattle.normal_form.proofs.MeaningParts.{good_parts}
+use Rattle.normal_form.proofs.ShapeFinished.{operator_past}
+use Rattle.normal_form.proofs.MeaningFinished.{sets_none, sets-original, clears-original, sets-twin, clears-twin}
 
 -- One variable, and one twin, after a step: A where it is set, D where it is cleared.
 original_after : (a d : Bool) (x : ℕ) → cond a 1 (cond (d && not a) 0 x) ≡ cond a 1 (cond d 0 x)
@@ -47,11 +47,11 @@ free_twin false false = refl
 
 pub length_apply : (s : List ℕ) (e : Effect) → length (apply s e) ≡ length s
 unfolding apply
-length_apply s e = length-upto (length s) (value_after s e)
+length_apply s e = length_upto (length s) (value_after s e)
 
 apply_at : (s : List ℕ) (e : Effect) (v : ℕ) → v < length s → get_or (apply s e) v 0 ≡ value_after s e v
 unfolding apply
-apply_at s e v h = getD-upto (length s) (value_after s e) v 0 h
+apply_at s e v h = getD_upto (length s) (value_after s e) v 0 h
 
 bit_value : (s : List ℕ) (e : Effect) (v : ℕ) → get_or s v 0 ≤ 1 → value_after s e v ≤ 1
 unfolding value_after
@@ -68,25 +68,25 @@ place_of P n w x below twin beyond = go (dec_lt x n) (dec_lt x (n + w))
 
 module _ (t : Task) (rules : Checked t) (s s' : List ℕ) (width : length s ≡ length t.initial) (states : Corresponding (finished t).originals s s') where
   module _ (o : ℕ) (h : o < length t.operators) where
-    original-value :
+    original_value :
         (v : ℕ)
         → v < length t.initial
         → value_after s' (effect_of_operator (finished t) o) v ≡ value_after s (effect_of_operator t o) v
     unfolding value_after
-    original-value v b =
+    original_value v b =
         let e = effect_of_operator t o in
         ap₂ (λ (a : Bool) (r : ℕ). cond a 1 r) (sets-original t rules s s' width states o h v b)
         (ap₂ (λ (d : Bool) (r : ℕ). cond d 0 r) (clears-original t rules s s' width states o h v b)
         (states.same v (omega arith)))
         ∙ original_after (effcond s (sets v) e) (effcond s (clears v) e) (get_or s v 0)
 
-    twin-value :
+    twin_value :
         (k : ℕ)
         → k < length (finished t).originals
         → value_after s' (effect_of_operator (finished t) o) (length t.initial + k)
         ≡ 1 - value_after s (effect_of_operator t o) (get_or (finished t).originals k 0)
     unfolding value_after finished
-    twin-value k b =
+    twin_value k b =
         let e = effect_of_operator t o in
         let v = get_or (finished t).originals k 0 in
         ap₂ (λ (a : Bool) (r : ℕ). cond a 1 r) (sets-twin t rules s s' width states o h k b)
@@ -96,13 +96,13 @@ module _ (t : Task) (rules : Checked t) (s s' : List ℕ) (width : length s ≡ 
 
     twin_below : (k : ℕ) → k < length (finished t).originals → get_or (finished t).originals k 0 < length t.initial
     unfolding finished
-    twin_below k b = (good-parts t rules).fine.twin_below k b
+    twin_below k b = (good_parts t rules).fine.twin_below k b
 
     -- in corresponding states a step leads to corresponding states
-    pub correspond-after :
+    pub correspond_after :
         Corresponding (finished t).originals (apply s (effect_of_operator t o))
         (apply s' (effect_of_operator (finished t) o))
-    correspond-after =
+    correspond_after =
         let n = length t.initial in
         let e = effect_of_operator t o in
         let e' = effect_of_operator (finished t) o in
@@ -114,25 +114,25 @@ module _ (t : Task) (rules : Checked t) (s s' : List ℕ) (width : length s ≡ 
           same =
               λ v b.
               apply_at s' e' v (omega (arith, states.width))
-              ∙ original-value v (omega arith)
+              ∙ original_value v (omega arith)
               ∙ sym (apply_at s e v (omega arith));
           opposite =
               λ k b.
               let v = get_or (finished t).originals k 0 in
               rw (len, width)
               (apply_at s' e' (n + k) (omega (arith, states.width))
-              ∙ twin-value k b
+              ∙ twin_value k b
               ∙ ap (λ (x : ℕ). 1 - x) (sym (apply_at s e v (omega (arith, twin_below k b)))));
         }
 
     -- an operator of the task sets and clears no variable together
-    free-inside :
+    free_inside :
         (x : ℕ)
         → (effcond s' (sets x) (effect_of_operator (finished t) o)
         && effcond s' (clears x) (effect_of_operator (finished t) o))
         ≡ false
     unfolding finished
-    free-inside x =
+    free_inside x =
         let e = effect_of_operator t o in
         let e' = effect_of_operator (finished t) o in
         place_of (λ x. (effcond s' (sets x) e' && effcond s' (clears x) e') ≡ false) (length t.initial)
@@ -145,23 +145,23 @@ module _ (t : Task) (rules : Checked t) (s s' : List ℕ) (width : length s ≡ 
         ap₂ ◌&&◌ (sets-twin t rules s s' width states o h k b) (clears-twin t rules s s' width states o h k b)
         ∙ free_twin (effcond s (sets v) e) (effcond s (clears v) e))
         (λ b.
-        ap (λ (a : Bool). a && effcond s' (clears x) e') (sets-none t rules s s' width states o h x b))
+        ap (λ (a : Bool). a && effcond s' (clears x) e') (sets_none t rules s s' width states o h x b))
 
   -- nor does any other number, which has the empty effect
-  pub free-of-conflict :
+  pub free_of_conflict :
       (o x : ℕ)
       → (effcond s' (sets x) (effect_of_operator (finished t) o)
       && effcond s' (clears x) (effect_of_operator (finished t) o))
       ≡ false
   unfolding effcond
-  free-of-conflict o x = go (dec_lt o (length t.operators))
+  free_of_conflict o x = go (dec_lt o (length t.operators))
     where
       go :
           Dec (o < length t.operators)
           → (effcond s' (sets x) (effect_of_operator (finished t) o)
           && effcond s' (clears x) (effect_of_operator (finished t) o))
           ≡ false
-      go (yes h) = free-inside o h x
+      go (yes h) = free_inside o h x
       go (no h) =
-          let none : effect_of_operator (finished t) o ≡ empty = operator-past t o (omega arith) in
+          let none : effect_of_operator (finished t) o ≡ empty = operator_past t o (omega arith) in
           ap (λ (e : Effect). effcond s' (sets x) e && effcond s' (clears x) e) none

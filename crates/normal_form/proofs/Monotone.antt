@@ -14,26 +14,26 @@ either : (a b : Bool) {c d : Bool} → (a ≡ true → c ≡ true) → (b ≡ tr
 either a b {c} {d} f g e = or_cases a b (c || d ≡ true) e (λ h. or_left c d (f h)) (λ h. or_right c d (g h))
 
 module _ (s s' : List ℕ) (more : (v : ℕ) → get_or s v 0 ≡ 1 → get_or s' v 0 ≡ 1) where
-  pub formula-monotone : (p : Formula) → PositiveFormula p → holds s p ≡ true → holds s' p ≡ true
+  pub formula_monotone : (p : Formula) → PositiveFormula p → holds s p ≡ true → holds s' p ≡ true
   unfolding holds
-  formula-monotone falsum h e = e
-  formula-monotone verum h e = refl
-  formula-monotone (variable v) h e = eq-eqb (get_or s' v 0) 1 (more v (eqb-true (get_or s v 0) 1 e))
-  formula-monotone (negation p) h e = absurd h
-  formula-monotone (conjunction p q) h e =
-      and_both (formula-monotone p h.0 (and_left (holds s p) (holds s q) e))
-      (formula-monotone q h.1 (and_right (holds s p) (holds s q) e))
-  formula-monotone (disjunction p q) h e =
-      either (holds s p) (holds s q) (formula-monotone p h.0) (formula-monotone q h.1) e
-  formula-monotone (implication p q) h e = absurd h
-  formula-monotone (equivalence p q) h e = absurd h
+  formula_monotone falsum h e = e
+  formula_monotone verum h e = refl
+  formula_monotone (variable v) h e = eq-eqb (get_or s' v 0) 1 (more v (eqb-true (get_or s v 0) 1 e))
+  formula_monotone (negation p) h e = absurd h
+  formula_monotone (conjunction p q) h e =
+      and_both (formula_monotone p h.0 (and_left (holds s p) (holds s q) e))
+      (formula_monotone q h.1 (and_right (holds s p) (holds s q) e))
+  formula_monotone (disjunction p q) h e =
+      either (holds s p) (holds s q) (formula_monotone p h.0) (formula_monotone q h.1) e
+  formula_monotone (implication p q) h e = absurd h
+  formula_monotone (equivalence p q) h e = absurd h
 
-  pub effect-monotone : (l : Atom) (e : Effect) → PositiveEffect e → effcond s l e ≡ true → effcond s' l e ≡ true
+  pub effect_monotone : (l : Atom) (e : Effect) → PositiveEffect e → effcond s l e ≡ true → effcond s' l e ≡ true
   unfolding effcond
-  effect-monotone l empty h c = c
-  effect-monotone l (atomic m) h c = c
-  effect-monotone l (both e f) h c =
-      either (effcond s l e) (effcond s l f) (effect-monotone l e h.0) (effect-monotone l f h.1) c
-  effect-monotone l (under p e) h c =
-      and_both (formula-monotone p h.0 (and_left (holds s p) (effcond s l e) c))
-      (effect-monotone l e h.1 (and_right (holds s p) (effcond s l e) c))
+  effect_monotone l empty h c = c
+  effect_monotone l (atomic m) h c = c
+  effect_monotone l (both e f) h c =
+      either (effcond s l e) (effcond s l f) (effect_monotone l e h.0) (effect_monotone l f h.1) c
+  effect_monotone l (under p e) h c =
+      and_both (formula_monotone p h.0 (and_left (holds s p) (effcond s l e) c))
+      (effect_monotone l e h.1 (and_right (holds s p) (effcond s l e) c))

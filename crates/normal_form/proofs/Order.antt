@@ -18,8 +18,8 @@ use Rattle.normal_form.specs.Image.{literal, image}
 use Rattle.normal_form.specs.Conditions.{Becoming, guarded, condition}
 use Rattle.normal_form.specs.Copy.{over_two, copy, itself}
 use Rattle.normal_form.specs.Operators.{deletes_of, changes_of}
-use Rattle.normal_form.proofs.Growth.{longer, prefix-at, steady_pair}
-use Rattle.normal_form.proofs.Steady.{steady_image, steady-condition}
+use Rattle.normal_form.proofs.Growth.{longer, prefix_at, steady_pair}
+use Rattle.normal_form.proofs.Steady.{steady_image, steady_condition}
 use Rattle.normal_form.proofs.Place.{Placed, found, added, placed}
 use Rattle.normal_form.proofs.Fine.{row_below, row_has}
 
@@ -32,17 +32,17 @@ rows_longer {s} {t} g = longer s.rows t.rows g.rows
 
 -- A join's row stands where its sides do.
 module _ (s : St) (two : 2 ≤ length s.rows) where
-  joined-stands :
+  joined_stands :
       (p : Polarity) (c : Choice) (a b : ℕ)
       → a < length s.rows
       → b < length s.rows
       → (join_as p c a b s).value < length (join_as p c a b s).st.rows
   unfolding join_as give
-  joined-stands plain absorbed a b h k = omega arith
-  joined-stands negated absorbed a b h k = omega arith
-  joined-stands p only_left a b h k = h
-  joined-stands p only_right a b h k = k
-  joined-stands p own_row a b h k = row_below (record { kind = join_kind p; a = a; b = b }) s
+  joined_stands plain absorbed a b h k = omega arith
+  joined_stands negated absorbed a b h k = omega arith
+  joined_stands p only_left a b h k = h
+  joined_stands p only_right a b h k = k
+  joined_stands p own_row a b h k = row_below (record { kind = join_kind p; a = a; b = b }) s
 
   join_stands :
       (p : Polarity) (a b : ℕ)
@@ -50,12 +50,12 @@ module _ (s : St) (two : 2 ≤ length s.rows) where
       → b < length s.rows
       → (join p a b s).value < length (join p a b s).st.rows
   unfolding join
-  join_stands p a b h k = joined-stands p (choice p a b) a b h k
+  join_stands p a b h k = joined_stands p (choice p a b) a b h k
 
 module _ (p : Polarity) {l r : Build ℕ} (ls : Steady l) (rs : Steady r) where
-  pair-stands : Stands l → Stands r → Stands (pair p l r)
+  pair_stands : Stands l → Stands r → Stands (pair p l r)
   unfolding pair bind
-  pair-stands lb rb =
+  pair_stands lb rb =
       record {
         stands =
             λ s two.
@@ -92,17 +92,17 @@ image_stands n p verum = truth_stands p
 image_stands n p (variable v) = literal_stands n p v
 image_stands n p (negation f) = image_stands n (opposite p) f
 image_stands n p (conjunction f g) =
-    pair-stands p (steady_image n p f) (steady_image n p g) (image_stands n p f) (image_stands n p g)
+    pair_stands p (steady_image n p f) (steady_image n p g) (image_stands n p f) (image_stands n p g)
 image_stands n p (disjunction f g) =
-    pair-stands (opposite p) (steady_image n p f) (steady_image n p g) (image_stands n p f) (image_stands n p g)
+    pair_stands (opposite p) (steady_image n p f) (steady_image n p g) (image_stands n p f) (image_stands n p g)
 image_stands n p (implication f g) =
-    pair-stands (opposite p) (steady_image n (opposite p) f) (steady_image n p g) (image_stands n (opposite p) f) (image_stands n p g)
+    pair_stands (opposite p) (steady_image n (opposite p) f) (steady_image n p g) (image_stands n (opposite p) f) (image_stands n p g)
 image_stands n p (equivalence f g) =
-    pair-stands negated
+    pair_stands negated
     (steady_pair plain (steady_image n plain f) (steady_image n p g))
     (steady_pair plain (steady_image n negated f) (steady_image n (opposite p) g))
-    (pair-stands plain (steady_image n plain f) (steady_image n p g) (image_stands n plain f) (image_stands n p g))
-    (pair-stands plain (steady_image n negated f) (steady_image n (opposite p) g) (image_stands n negated f)
+    (pair_stands plain (steady_image n plain f) (steady_image n p g) (image_stands n plain f) (image_stands n p g))
+    (pair_stands plain (steady_image n negated f) (steady_image n (opposite p) g) (image_stands n negated f)
     (image_stands n (opposite p) g))
 
 -- The row of a copy stands (02, K3).
@@ -131,13 +131,13 @@ itself_stands p f = copy_stands f
 
 -- Whatever a formula becomes, if that is steady and its row stands.
 module _ (becomes : Becoming) (steady : (p : Polarity) (f : Formula) → Steady (becomes p f)) (stand : (p : Polarity) (f : Formula) → Stands (becomes p f)) where
-  guarded-stands :
+  guarded_stands :
       (p : Polarity) (f : Formula) (c : ℕ) (s : St)
       → 2 ≤ length s.rows
       → c < length s.rows
       → (guarded becomes p f c s).value < length (guarded becomes p f c s).st.rows
   unfolding guarded give bind
-  guarded-stands p f c s two h = go (eqb c (image_of_false p))
+  guarded_stands p f c s two h = go (eqb c (image_of_false p))
     where
       go : (b : Bool)
           → (cond b (give c) (bind (becomes p f) (λ a. join p a c)) s).value
@@ -148,24 +148,24 @@ module _ (becomes : Becoming) (steady : (p : Polarity) (f : Formula) → Steady 
           let g = rows_longer ((steady p f).grow s) in
           join_stands x (omega arith) p (becomes p f s).value c ((stand p f).stands s two) (omega arith)
 
-  pub condition-stands : (p : Polarity) (l : Atom) (e : Effect) → Stands (condition becomes p l e)
+  pub condition_stands : (p : Polarity) (l : Atom) (e : Effect) → Stands (condition becomes p l e)
   unfolding condition bind
-  condition-stands p l empty = falsity_stands p
-  condition-stands p l (atomic m) = go (same_atom l m)
+  condition_stands p l empty = falsity_stands p
+  condition_stands p l (atomic m) = go (same_atom l m)
     where
       go : (b : Bool) → Stands (give (cond b (image_of_true p) (image_of_false p)))
       go true = truth_stands p
       go false = falsity_stands p
-  condition-stands p l (both e f) =
-      pair-stands (opposite p) (steady-condition becomes steady p l e) (steady-condition becomes steady p l f) (condition-stands p l e)
-      (condition-stands p l f)
-  condition-stands p l (under f e) =
+  condition_stands p l (both e f) =
+      pair_stands (opposite p) (steady_condition becomes steady p l e) (steady_condition becomes steady p l f) (condition_stands p l e)
+      (condition_stands p l f)
+  condition_stands p l (under f e) =
       record {
         stands =
             λ s two.
             let x = condition becomes p l e s in
-            let g = rows_longer ((steady-condition becomes steady p l e).grow s) in
-            guarded-stands p f x.value x.st (omega arith) ((condition-stands p l e).stands s two);
+            let g = rows_longer ((steady_condition becomes steady p l e).grow s) in
+            guarded_stands p f x.value x.st (omega arith) ((condition_stands p l e).stands s two);
       }
 
 -- A value stays what it is in every later state.
@@ -188,18 +188,18 @@ lower_number {first} {second} s u fs ss fb two g h new =
 
 -- How a join comes out. Where either side is a constant it folds, and nothing is added.
 module _ (p : Polarity) (a b : ℕ) where
-  own-choice : 2 ≤ a → 2 ≤ b → choice p a b ≡ own_row
+  own_choice : 2 ≤ a → 2 ≤ b → choice p a b ≡ own_row
   unfolding choice
-  own-choice h k = go p
+  own_choice h k = go p
     where
       go : (q : Polarity) → choice q a b ≡ own_row
       go plain = rw (ne_eqb a 0 (omega arith), ne_eqb b 0 (omega arith), ne_eqb a 1 (omega arith), ne_eqb b 1 (omega arith))
       go negated = rw (ne_eqb a 1 (omega arith), ne_eqb b 1 (omega arith), ne_eqb a 0 (omega arith), ne_eqb b 0 (omega arith))
 
   -- a row of its own joins rows that are no constants
-  own-sides : choice p a b ≡ own_row → (2 ≤ a) × (2 ≤ b)
+  own_sides : choice p a b ≡ own_row → (2 ≤ a) × (2 ≤ b)
   unfolding choice
-  own-sides e = go (eqb a (image_of_false p)) (eqb b (image_of_false p)) (eqb a (image_of_true p)) (eqb b (image_of_true p)) refl refl refl refl e
+  own_sides e = go (eqb a (image_of_false p)) (eqb b (image_of_false p)) (eqb a (image_of_true p)) (eqb b (image_of_true p)) refl refl refl refl e
     where
       past : (q : Polarity) (k : ℕ) → (k ≡ image_of_false q → ⊥) → (k ≡ image_of_true q → ⊥) → 2 ≤ k
       past plain k h i = omega arith
@@ -224,9 +224,9 @@ module _ (p : Polarity) (a b : ℕ) where
 
   module _ (s : St) where
     -- at most one row is added, and no twin
-    pub join-no-twin : (join p a b s).st.twins ≡ s.twins
+    pub join_no_twin : (join p a b s).st.twins ≡ s.twins
     unfolding join join_as give row
-    join-no-twin = go (choice p a b)
+    join_no_twin = go (choice p a b)
       where
         go : (c : Choice) → (join_as p c a b s).st.twins ≡ s.twins
         go absorbed = refl
@@ -234,9 +234,9 @@ module _ (p : Polarity) (a b : ℕ) where
         go only_right = refl
         go own_row = refl
 
-    pub join-one-row : length (join p a b s).st.rows ≤ length s.rows + 1
+    pub join_one_row : length (join p a b s).st.rows ≤ length s.rows + 1
     unfolding join join_as give row
-    join-one-row = go (choice p a b)
+    join_one_row = go (choice p a b)
       where
         r : Row
         r = record { kind = join_kind p; a = a; b = b }
@@ -252,40 +252,40 @@ module _ (p : Polarity) (a b : ℕ) where
         go own_row = put (placed same_row r s.rows)
 
     -- none where either side is a constant
-    pub join-adds-nothing : (2 ≤ a → 2 ≤ b → ⊥) → (join p a b s).st ≡ s
+    pub join_adds_nothing : (2 ≤ a → 2 ≤ b → ⊥) → (join p a b s).st ≡ s
     unfolding join join_as give
-    join-adds-nothing folds = go (choice p a b) refl
+    join_adds_nothing folds = go (choice p a b) refl
       where
         go : (c : Choice) → choice p a b ≡ c → (join_as p c a b s).st ≡ s
         go absorbed e = refl
         go only_left e = refl
         go only_right e = refl
-        go own_row e = absurd (folds (own-sides e).0 (own-sides e).1)
+        go own_row e = absurd (folds (own_sides e).0 (own_sides e).1)
 
     -- Else its row names a, then b, in every later state.
-    pub join-own-row :
+    pub join_own_row :
         (u : St)
         → Grows (join p a b s).st u
         → 2 ≤ a
         → 2 ≤ b
         → get_or u.rows (join p a b s).value no_row ≡ record { kind = join_kind p; a = a; b = b }
-    join-own-row u g h k =
-        prefix-at (join p a b s).st.rows u.rows no_row (join p a b s).value g.rows below ∙ here
+    join_own_row u g h k =
+        prefix_at (join p a b s).st.rows u.rows no_row (join p a b s).value g.rows below ∙ here
       where
         below : (join p a b s).value < length (join p a b s).st.rows
-        below = unfold join join_as in rw (own-choice h k) (row_below (record { kind = join_kind p; a = a; b = b }) s)
+        below = unfold join join_as in rw (own_choice h k) (row_below (record { kind = join_kind p; a = a; b = b }) s)
 
         here : get_or (join p a b s).st.rows (join p a b s).value no_row ≡ record { kind = join_kind p; a = a; b = b }
-        here = unfold join join_as in rw (own-choice h k) (row_has (record { kind = join_kind p; a = a; b = b }) s)
+        here = unfold join join_as in rw (own_choice h k) (row_has (record { kind = join_kind p; a = a; b = b }) s)
 
     -- false and f, f and false give false; true and f, f and true give f; dually for or
-    pub join-zero-left : a ≡ image_of_false p → (join p a b s).value ≡ image_of_false p
+    pub join_zero_left : a ≡ image_of_false p → (join p a b s).value ≡ image_of_false p
     unfolding join join_as choice give
-    join-zero-left e = rw (eq-eqb a (image_of_false p) e)
+    join_zero_left e = rw (eq-eqb a (image_of_false p) e)
 
-    pub join-zero-right : b ≡ image_of_false p → (join p a b s).value ≡ image_of_false p
+    pub join_zero_right : b ≡ image_of_false p → (join p a b s).value ≡ image_of_false p
     unfolding join join_as choice give
-    join-zero-right e = go (eqb a (image_of_false p)) refl
+    join_zero_right e = go (eqb a (image_of_false p)) refl
       where
         go : (q : Bool) → eqb a (image_of_false p) ≡ q → (join p a b s).value ≡ image_of_false p
         go true w = rw w
@@ -295,17 +295,17 @@ module _ (p : Polarity) (a b : ℕ) where
     other plain k e f = omega arith
     other negated k e f = omega arith
 
-    pub join-one-left : a ≡ image_of_true p → (join p a b s).value ≡ b
+    pub join_one_left : a ≡ image_of_true p → (join p a b s).value ≡ b
     unfolding join join_as choice give
-    join-one-left e = go (eqb b (image_of_false p)) refl
+    join_one_left e = go (eqb b (image_of_false p)) refl
       where
         go : (q : Bool) → eqb b (image_of_false p) ≡ q → (join p a b s).value ≡ b
         go true w = rw (ne_eqb a (image_of_false p) (other p a e), w) (sym (eqb-true b (image_of_false p) w))
         go false w = rw (ne_eqb a (image_of_false p) (other p a e), w, eq-eqb a (image_of_true p) e)
 
-    pub join-one-right : b ≡ image_of_true p → (join p a b s).value ≡ a
+    pub join_one_right : b ≡ image_of_true p → (join p a b s).value ≡ a
     unfolding join join_as choice give
-    join-one-right e = go (eqb a (image_of_false p)) (eqb a (image_of_true p)) refl refl
+    join_one_right e = go (eqb a (image_of_false p)) (eqb a (image_of_true p)) refl refl
       where
         go : (q r : Bool) → eqb a (image_of_false p) ≡ q → eqb a (image_of_true p) ≡ r → (join p a b s).value ≡ a
         go true r w x = rw w (sym (eqb-true a (image_of_false p) w))
@@ -320,17 +320,17 @@ module _ (p : Polarity) (l r : Build ℕ) (s : St) where
 
 -- An effect under a formula: the inner effect first. If it is false (dually true), nothing else; else what the formula becomes, then their join.
 module _ (becomes : Becoming) (p : Polarity) (l : Atom) (f : Formula) (e : Effect) (s : St) where
-  pub under-false : (condition becomes p l e s).value ≡ image_of_false p → condition becomes p l (under f e) s ≡ condition becomes p l e s
+  pub under_false : (condition becomes p l e s).value ≡ image_of_false p → condition becomes p l (under f e) s ≡ condition becomes p l e s
   unfolding condition bind guarded give
-  under-false q = rw (eq-eqb (condition becomes p l e s).value (image_of_false p) q)
+  under_false q = rw (eq-eqb (condition becomes p l e s).value (image_of_false p) q)
 
-  pub under-is :
+  pub under_is :
       ((condition becomes p l e s).value ≡ image_of_false p → ⊥)
       → let c = condition becomes p l e s in
       let a = becomes p f c.st in
       condition becomes p l (under f e) s ≡ join p a.value c.value a.st
   unfolding condition bind guarded
-  under-is q = rw (ne_eqb (condition becomes p l e s).value (image_of_false p) q)
+  under_is q = rw (ne_eqb (condition becomes p l e s).value (image_of_false p) q)
 
 -- A variable's changes: A, then D; if neither is row 0, then N and the join of D and N.
 module _ (becomes : Becoming) (e : Effect) (v : ℕ) (s : St) where
@@ -343,12 +343,12 @@ module _ (becomes : Becoming) (e : Effect) (v : ℕ) (s : St) where
   abbrev N : Got ℕ
   N = condition becomes negated (sets v) e D.st
 
-  pub changes-alone :
+  pub changes_alone :
       (A.value ≡ 0) ⊎ (D.value ≡ 0)
       → changes_of becomes e v s ≡ record { value = record { variable = v; adds = A.value; deletes = D.value }; st = D.st }
   unfolding changes_of deletes_of bind give
-  changes-alone (inl q) = rw (eq-eqb A.value 0 q)
-  changes-alone (inr q) = go (eqb A.value 0) refl
+  changes_alone (inl q) = rw (eq-eqb A.value 0 q)
+  changes_alone (inr q) = go (eqb A.value 0) refl
     where
       go : (b : Bool)
           → eqb A.value 0 ≡ b
@@ -356,10 +356,10 @@ module _ (becomes : Becoming) (e : Effect) (v : ℕ) (s : St) where
       go true w = rw w
       go false w = rw (w, eq-eqb D.value 0 q)
 
-  pub changes-joined :
+  pub changes_joined :
       (A.value ≡ 0 → ⊥)
       → (D.value ≡ 0 → ⊥)
       → let k = join plain D.value N.value N.st in
       changes_of becomes e v s ≡ record { value = record { variable = v; adds = A.value; deletes = k.value }; st = k.st }
   unfolding changes_of deletes_of bind give
-  changes-joined q r = rw (ne_eqb A.value 0 q, ne_eqb D.value 0 r)
+  changes_joined q r = rw (ne_eqb A.value 0 q, ne_eqb D.value 0 r)

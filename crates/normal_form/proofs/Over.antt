@@ -8,7 +8,7 @@ use Rattle.normal_form.specs.Builder.{St}
 use Rattle.normal_form.specs.Growth.{Grows}
 use Rattle.normal_form.specs.Finished.{built, finished}
 use Rattle.normal_form.specs.Compiled.{Room, Fits}
-use Rattle.normal_form.proofs.ShapePassed.{finished-variables}
+use Rattle.normal_form.proofs.ShapePassed.{finished_variables}
 use Rattle.normal_form.proofs.ShapeSizes.{grows_fewer}
 use Rattle.normal_form.specs.Inner.Allowed.{Allows}
 
@@ -18,11 +18,11 @@ pub record WithinRoom (rows twins : ℕ) (s : St) : Type 0 where
   pub twins_within : length s.twins ≤ twins
 
 module _ (t : Task) (room : Room) (rows twins effects : ℕ) (allows : Allows (length t.initial) room rows twins effects) (fit : Fits (finished t) room) where
-  pub building-within : (s : St) → Grows s (built t).st → WithinRoom rows twins s
+  pub building_within : (s : St) → Grows s (built t).st → WithinRoom rows twins s
   unfolding finished
-  building-within s g =
+  building_within s g =
       let f = grows_fewer g in
-      let width = finished-variables t in
+      let width = finished_variables t in
       let all : length (built t).st.rows ≤ rows =
       allows.rows_allowed (length (built t).st.rows) fit.limits.formulas fit.tables.formulas
       in

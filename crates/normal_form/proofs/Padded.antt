@@ -44,8 +44,8 @@ padded_empty n h =
 
 -- A table that is 0 from k on is what stands before k, padded.
 module _ (t : List ℕ) (k : ℕ) (within : k ≤ length t) (past : (j : ℕ) → k ≤ j → get_or t j 0 ≡ 0) where
-  zero-tail : drop k t ≡ replicate (length t - k) 0
-  zero-tail =
+  zero_tail : drop k t ≡ replicate (length t - k) 0
+  zero_tail =
       ext_get_or 0 (drop k t) (replicate (length t - k) 0)
       (length-drop k t ∙ sym (length-replicate {A = ℕ} (length t - k) 0))
       (λ i h.
@@ -54,10 +54,10 @@ module _ (t : List ℕ) (k : ℕ) (within : k ≤ length t) (past : (j : ℕ) �
       ∙ sym (get_or-replicate {A = ℕ} (length t - k) i 0 0 (omega (arith, length-drop k t))))
 
   -- of the originals of twins
-  pub padded-front : t ≡ padded (length t) (take k t)
+  pub padded_front : t ≡ padded (length t) (take k t)
   unfolding padded
-  padded-front =
-      rw (length-take-le k t within) (sym (take-append-drop k t) ∙ ap (λ (l : List ℕ). take k t ++ l) zero-tail)
+  padded_front =
+      rw (length-take-le k t within) (sym (take-append-drop k t) ∙ ap (λ (l : List ℕ). take k t ++ l) zero_tail)
 
 -- a table of n rows that is 0 past them
 pub padded_rows :
@@ -66,4 +66,4 @@ pub padded_rows :
     → ((j : ℕ) → 3 * n ≤ j → get_or t j 0 ≡ 0)
     → t ≡ padded (length t) (words_of (upto n (row_at t)))
 padded_rows t n h past =
-    padded-front t (3 * n) h past ∙ ap (padded (length t)) (rows_front t n h)
+    padded_front t (3 * n) h past ∙ ap (padded (length t)) (rows_front t n h)

@@ -56,18 +56,18 @@ module _ {A : Type 0} (same : A → A → Bool) (x : A) where
       go false e (found h k) = found (rw e (omega arith)) (rw (e, k))
       go false e (added h k f) = added (rw (e, h)) (rw (e, k)) (none e f)
 
-  pub place-below : (l : List A) → place same x l < length (including same x l)
-  place-below l = go (placed l)
+  pub place_below : (l : List A) → place same x l < length (including same x l)
+  place_below l = go (placed l)
     where
       go : Placed same x l → place same x l < length (including same x l)
       go (found h k) = rw k h
       go (added h k f) = rw (k, h) (omega (arith, length-append l (x ∷ [])))
 
   -- with a test that only the same pass
-  pub place-has : ((y : A) → same y x ≡ true → y ≡ x) → (d : A) (l : List A) → get_or (including same x l) (place same x l) d ≡ x
+  pub place_has : ((y : A) → same y x ≡ true → y ≡ x) → (d : A) (l : List A) → get_or (including same x l) (place same x l) d ≡ x
   unfolding place including
-  place-has alike d [] = refl
-  place-has alike d (y ∷ ys) = go (same y x) refl (place-has alike d ys)
+  place_has alike d [] = refl
+  place_has alike d (y ∷ ys) = go (same y x) refl (place_has alike d ys)
     where
       go :
           (b : Bool)
@@ -79,18 +79,18 @@ module _ {A : Type 0} (same : A → A → Bool) (x : A) where
 
 -- what a search from the front finds: the first that is the same, or none
 module _ {A : Type 0} (same : A → A → Bool) (x d : A) where
-  pub place-first :
+  pub place_first :
       (l : List A) (i : ℕ)
       → i < length l
       → ((j : ℕ) → j < i → same (get_or l j d) x ≡ false)
       → same (get_or l i d) x ≡ true
       → place same x l ≡ i
   unfolding place
-  place-first [] i h before e = absurd (not-suc-le-zero h)
-  place-first (y ∷ ys) zero h before e = rw e
-  place-first (y ∷ ys) (suc i) h before e =
+  place_first [] i h before e = absurd (not-suc-le-zero h)
+  place_first (y ∷ ys) zero h before e = rw e
+  place_first (y ∷ ys) (suc i) h before e =
       let here : same y x ≡ false = before 0 (omega arith) in
-      rw here (ap suc (place-first ys i (omega arith) (λ j k. before (suc j) (omega arith)) e))
+      rw here (ap suc (place_first ys i (omega arith) (λ j k. before (suc j) (omega arith)) e))
 
   pub place_none :
       (l : List A) → ((j : ℕ) → j < length l → same (get_or l j d) x ≡ false) → place same x l ≡ length l
@@ -105,7 +105,7 @@ pub place_found : (x : ℕ) (l : List ℕ) → place eqb x l < length l → get_
 place_found x l h = go (placed eqb x l)
   where
     go : Placed eqb x l → get_or l (place eqb x l) 0 ≡ x
-    go (found b k) = rw k at (place-has eqb x (λ y. eqb-true y x) 0 l)
+    go (found b k) = rw k at (place_has eqb x (λ y. eqb-true y x) 0 l)
     go (added b k f) = absurd (omega arith)
 
 pub place_here : (l : List ℕ) (j : ℕ) → j < length l → place eqb (get_or l j 0) l < length l

@@ -20,21 +20,21 @@ use Rattle.normal_form.proofs.ShapeEach.{Upwards, start, next}
 use Rattle.normal_form.proofs.ShapeAssembled.{unwritten}
 
 module _ (w : Written) (r : Rule) where
-  pub first-length : w.stands ≡ 0 → length (write_rule w r).rows ≡ length w.rows + 2
+  pub first_length : w.stands ≡ 0 → length (write_rule w r).rows ≡ length w.rows + 2
   unfolding write_rule rule_rows
-  first-length e = rw (eq-eqb w.stands 0 e) (length-append w.rows (rule_rows (length w.rows) r))
+  first_length e = rw (eq-eqb w.stands 0 e) (length-append w.rows (rule_rows (length w.rows) r))
 
-  pub next-length : (w.stands ≡ 0 → ⊥) → length (write_rule w r).rows ≡ length w.rows + 3
+  pub next_length : (w.stands ≡ 0 → ⊥) → length (write_rule w r).rows ≡ length w.rows + 3
   unfolding write_rule rule_rows
-  next-length n =
+  next_length n =
       rw (ne_eqb w.stands 0 n)
       (length-append w.rows
       (rule_rows (length w.rows) r ++ (record { kind = 3; a = w.stands; b = length w.rows + 1 } ∷ [])))
 
   -- what stands is the last row
-  pub last-stands : (write_rule w r).stands + 1 ≡ length (write_rule w r).rows
+  pub last_stands : (write_rule w r).stands + 1 ≡ length (write_rule w r).rows
   unfolding write_rule rule_rows
-  last-stands = go (eqb w.stands 0)
+  last_stands = go (eqb w.stands 0)
     where
       i : ℕ
       i = length w.rows
@@ -66,7 +66,7 @@ pub chain_length :
 unfolding write_rules
 chain_length w [] n = omega arith
 chain_length w (r ∷ rs) n =
-    omega (arith, chain_length (write_rule w r) rs (write_stands w r), next-length w r n)
+    omega (arith, chain_length (write_rule w r) rs (write_stands w r), next_length w r n)
 
 pub written_length :
     (rows : List Row) (rs : List Rule)
@@ -77,7 +77,7 @@ written_length rows (r ∷ rs) =
     omega (
       arith,
       chain_length (write_rule (unwritten rows) r) rs (write_stands (unwritten rows) r),
-      first-length (unwritten rows) r refl,
+      first_length (unwritten rows) r refl,
     )
 
 -- after a rule, what stands is the last row
@@ -87,7 +87,7 @@ pub rules_stand :
     → (write_rules w rs).stands + 1 ≡ length (write_rules w rs).rows
 unfolding write_rules
 rules_stand w [] e = e
-rules_stand w (r ∷ rs) e = rules_stand (write_rule w r) rs (last-stands w r)
+rules_stand w (r ∷ rs) e = rules_stand (write_rule w r) rs (last_stands w r)
 
 -- rules one after another
 pub rules_split :
@@ -105,64 +105,64 @@ rule_few c l = go (eqb c 0)
     go false = omega arith
 
 module _ (n : ℕ) (twins : List ℕ) where
-  twin-few :
+  twin_few :
       (v : ℕ) (make : ℕ → List Rule) → ((w : ℕ) → length (make w) ≤ 1) → length (with_twin n twins v make) ≤ 1
   unfolding with_twin
-  twin-few v make h = go (ltb (place eqb v twins) (length twins))
+  twin_few v make h = go (ltb (place eqb v twins) (length twins))
     where
       go : (b : Bool) → length (cond b (make (n + place eqb v twins)) []) ≤ 1
       go true = h (n + place eqb v twins)
       go false = omega arith
 
-  pub rules-of-few : (c : Changes) → length (rules_of n twins c) ≤ 4
+  pub rules_of_few : (c : Changes) → length (rules_of n twins c) ≤ 4
   unfolding rules_of
-  rules-of-few c =
+  rules_of_few c =
       let v = c.variable in
       simp length-append
       (omega (
         arith,
         rule_few c.adds (sets v),
         rule_few c.deletes (clears v),
-        twin-few v (λ w. rule c.adds (clears w)) (λ w. rule_few c.adds (clears w)),
-        twin-few v (λ w. rule c.deletes (sets w)) (λ w. rule_few c.deletes (sets w)),
+        twin_few v (λ w. rule c.adds (clears w)) (λ w. rule_few c.adds (clears w)),
+        twin_few v (λ w. rule c.deletes (sets w)) (λ w. rule_few c.deletes (sets w)),
       ))
 
-  pub rules-few : (cs : List Changes) → length (rules n twins cs) ≤ 4 * length cs
+  pub rules_few : (cs : List Changes) → length (rules n twins cs) ≤ 4 * length cs
   unfolding rules
-  rules-few [] = omega arith
-  rules-few (c ∷ cs) =
-      omega (arith, length-append (rules_of n twins c) (rules n twins cs), rules-of-few c, rules-few cs)
+  rules_few [] = omega arith
+  rules_few (c ∷ cs) =
+      omega (arith, length-append (rules_of n twins c) (rules n twins cs), rules_of_few c, rules_few cs)
 
   -- operators one after another
-  pub assemble-split :
+  pub assemble_split :
       (w : Assembled) (os ps : List Built)
       → assemble n twins w (os ++ ps) ≡ assemble n twins (assemble n twins w os) ps
   unfolding assemble
-  assemble-split w os ps = foldl-append (assemble_operator n twins) w os ps
+  assemble_split w os ps = foldl-append (assemble_operator n twins) w os ps
 
   rows_few : (k : ℕ) → rows_of_rules k ≤ 3 * k
   unfolding rows_of_rules
   rows_few zero = omega arith
   rows_few (suc k) = omega arith
 
-  operator-few :
+  operator_few :
       (w : Assembled) (b : Built)
       → length (assemble_operator n twins w b).effects ≤ length w.effects + 12 * length b.changes
   unfolding assemble_operator
-  operator-few w b =
+  operator_few w b =
       let rs = rules n twins b.changes in
-      omega (arith, written_length w.effects rs, rows_few (length rs), rules-few b.changes)
+      omega (arith, written_length w.effects rs, rows_few (length rs), rules_few b.changes)
 
   -- twelve rows for each variable of each operator at most
-  pub assemble-few :
+  pub assemble_few :
       (m : ℕ) (w : Assembled) (os : List Built)
       → All (λ b. length b.changes ≤ m) os
       → length (assemble n twins w os).effects ≤ length w.effects + 12 * m * length os
   unfolding assemble
-  assemble-few m w [] none = omega arith
-  assemble-few m w (b ∷ bs) (also p ps) =
+  assemble_few m w [] none = omega arith
+  assemble_few m w (b ∷ bs) (also p ps) =
       omega
-      (arith, assemble-few m (assemble_operator n twins w b) bs ps, operator-few w b, mul-suc (12 * m) (length bs))
+      (arith, assemble_few m (assemble_operator n twins w b) bs ps, operator_few w b, mul-suc (12 * m) (length bs))
 
 upwards_length : {m : ℕ} {cs : List Changes} → Upwards m cs → length cs ≡ m
 upwards_length start = refl

@@ -5,11 +5,11 @@ use mathlib.Core.List.{List, [], ◌∷◌}
 use lib.ListN.{length, get_or}
 use Rattle.normal_form.specs.Operators.{Changes, Built}
 use Rattle.normal_form.specs.Assembly.{Rule, rules_of, rules, Written, write_rule, write_rules, Assembled, assemble_operator, assemble}
-use Rattle.normal_form.proofs.Growth.{prefix-below}
-use Rattle.normal_form.proofs.ShapeRule.{atom_variable, Fits, Sound, write-sound}
+use Rattle.normal_form.proofs.Growth.{prefix_below}
+use Rattle.normal_form.proofs.ShapeRule.{atom_variable, Fits, Sound, write_sound}
 use Rattle.normal_form.proofs.ShapeWritten.{rules_prefix}
 use Rattle.normal_form.proofs.ShapeAssembled.{unwritten}
-use Rattle.normal_form.proofs.ShapeRules.{All, none, also, all_map, rules-of-all, rules-all}
+use Rattle.normal_form.proofs.ShapeRules.{All, none, also, all_map, rules_of_all, rules_all}
 
 -- the same by places
 pub all_at : {A : Type 0} (P : A → Type 0) (d : A) (l : List A) → ((k : ℕ) → k < length l → P (get_or l k d)) → All P l
@@ -26,11 +26,11 @@ pub rules_fit :
     (n f : ℕ) (twins : List ℕ) (cs : List Changes)
     → All (ChangesFit n f) cs
     → All (Fits (n + length twins) f) (rules n twins cs)
-rules_fit n f twins cs h = rules-all (Fits (n + length twins) f) n twins cs (all_map one h)
+rules_fit n f twins cs h = rules_all (Fits (n + length twins) f) n twins cs (all_map one h)
   where
     one : (c : Changes) → ChangesFit n f c → All (Fits (n + length twins) f) (rules_of n twins c)
     one c h =
-        rules-of-all (Fits (n + length twins) f) n twins c
+        rules_of_all (Fits (n + length twins) f) n twins c
         (record { atom = unfold atom_variable in omega arith; condition = h.adds })
         (record { atom = unfold atom_variable in omega arith; condition = h.deletes })
         (λ b. (
@@ -39,22 +39,22 @@ rules_fit n f twins cs h = rules-all (Fits (n + length twins) f) n twins cs (all
         ))
 
 module _ (v f : ℕ) where
-  pub rules-sound : (w : Written) (rs : List Rule) → All (Fits v f) rs → Sound v f w → Sound v f (write_rules w rs)
+  pub rules_sound : (w : Written) (rs : List Rule) → All (Fits v f) rs → Sound v f w → Sound v f (write_rules w rs)
   unfolding write_rules
-  rules-sound w [] none s = s
-  rules-sound w (r ∷ rs) (also p ps) s = rules-sound (write_rule w r) rs ps (write-sound v f w r p s)
+  rules_sound w [] none s = s
+  rules_sound w (r ∷ rs) (also p ps) s = rules_sound (write_rule w r) rs ps (write_sound v f w r p s)
 
-  pub assemble-sound :
+  pub assemble_sound :
       (n : ℕ) (twins : List ℕ) (w : Assembled) (os : List Built)
       → All (λ b. All (Fits v f) (rules n twins b.changes)) os
       → Sound v f (unwritten w.effects)
       → Sound v f (unwritten (assemble n twins w os).effects)
   unfolding assemble assemble_operator
-  assemble-sound n twins w [] none s = s
-  assemble-sound n twins w (b ∷ bs) (also p ps) s =
+  assemble_sound n twins w [] none s = s
+  assemble_sound n twins w (b ∷ bs) (also p ps) s =
       let rs = rules n twins b.changes in
-      assemble-sound n twins (assemble_operator n twins w b) bs ps
+      assemble_sound n twins (assemble_operator n twins w b) bs ps
       (record {
-        down = (rules-sound (unwritten w.effects) rs p s).down;
-        there = prefix-below (rules_prefix (unwritten w.effects) rs) 0 s.there;
+        down = (rules_sound (unwritten w.effects) rs p s).down;
+        there = prefix_below (rules_prefix (unwritten w.effects) rs) 0 s.there;
       })

@@ -17,9 +17,9 @@ use Rattle.normal_form.specs.Assembly.{rules, unassembled}
 use Rattle.normal_form.specs.Finished.{built, assembled, finished}
 use Rattle.normal_form.specs.Flat.{Flat, nothing}
 use Rattle.normal_form.proofs.ShapeWritten.{chain}
-use Rattle.normal_form.proofs.ShapeAssembled.{ground_unassembled, assemble-ground, assemble-length, Operated, operated-all}
+use Rattle.normal_form.proofs.ShapeAssembled.{ground_unassembled, assemble_ground, assemble_length, Operated, operated_all}
 use Rattle.normal_form.proofs.ShapeEach.{each_length, each_values, Upwards, changes_upwards}
-use Rattle.normal_form.proofs.ShapeFlat.{rules-distinct, flat-chain}
+use Rattle.normal_form.proofs.ShapeFlat.{rules_distinct, flat_chain}
 
 -- What stands past the end of what is built.
 abbrev pub no_changes : Changes
@@ -33,48 +33,48 @@ abbrev pub built_at : Task → ℕ → Built
 built_at t o = get_or (built t).value.operators o no_built
 
 module _ (t : Task) where
-  pub built-operators : length (built t).value.operators ≡ length t.operators
+  pub built_operators : length (built t).value.operators ≡ length t.operators
   unfolding built parts bind give
-  built-operators = each_length (length t.operators) (built_operator t) start
+  built_operators = each_length (length t.operators) (built_operator t) start
 
-  pub finished-operators : length (finished t).operators ≡ length t.operators
+  pub finished_operators : length (finished t).operators ≡ length t.operators
   unfolding finished assembled unassembled
-  finished-operators =
-      assemble-length (length t.initial) (built t).st.twins unassembled (built t).value.operators
-      ∙ omega (arith, built-operators)
+  finished_operators =
+      assemble_length (length t.initial) (built t).st.twins unassembled (built t).value.operators
+      ∙ omega (arith, built_operators)
 
   -- operator o of the finished task is what was built for operator o
-  pub finished-operator :
+  pub finished_operator :
       (o : ℕ)
       → o < length t.operators
       → Operated (length t.initial) (finished t).originals (finished t).formulas (assembled t) o (built_at t o)
   unfolding finished assembled
-  finished-operator o h =
-      operated-all (length t.initial) (built t).st.twins (built t).st.rows (built t).value.operators o no_built
-      (rw built-operators h)
+  finished_operator o h =
+      operated_all (length t.initial) (built t).st.twins (built t).st.rows (built t).value.operators o no_built
+      (rw built_operators h)
 
-  pub operator-chain :
+  pub operator_chain :
       (o : ℕ)
       → o < length t.operators
       → effect_of_operator (finished t) o
       ≡ chain (finished t).formulas (rules (length t.initial) (finished t).originals (built_at t o).changes)
   unfolding finished effect_of_operator operator_of
-  operator-chain o h = (finished-operator o h).tree
+  operator_chain o h = (finished_operator o h).tree
 
   -- a number that is no operator's has the empty effect
-  pub operator-past : (o : ℕ) → length t.operators ≤ o → effect_of_operator (finished t) o ≡ empty
+  pub operator_past : (o : ℕ) → length t.operators ≤ o → effect_of_operator (finished t) o ≡ empty
   unfolding finished effect_of_operator operator_of effect_of effect_within effect_node effect_kind assembled
-  operator-past o h =
+  operator_past o h =
       rw (
-        get_or-eq_default (finished t).operators no_operator {n = o} (omega (arith, finished-operators)),
-        (assemble-ground (length t.initial) (built t).st.twins unassembled (built t).value.operators ground_unassembled
+        get_or-eq_default (finished t).operators no_operator {n = o} (omega (arith, finished_operators)),
+        (assemble_ground (length t.initial) (built t).st.twins unassembled (built t).value.operators ground_unassembled
             ).empty_row,
       )
 
   -- the changes that were built are those of the source variables, upwards
-  pub built-upwards : (o : ℕ) → o < length t.operators → Upwards (length t.initial) (built_at t o).changes
+  pub built_upwards : (o : ℕ) → o < length t.operators → Upwards (length t.initial) (built_at t o).changes
   unfolding built parts built_operator bind give
-  built-upwards o h =
+  built_upwards o h =
       each_values (λ k b. Upwards (length t.initial) b.changes) no_built (built_operator t)
       (λ k s. changes_upwards (image (length t.initial)) (length t.initial) (effect_of_operator t k) _)
       (length t.operators) start o h
@@ -84,8 +84,8 @@ module _ (t : Task) where
     where
       go : Dec (o < length t.operators) → Flat (effect_of_operator (finished t) o)
       go (yes h) =
-          rw (operator-chain o h)
-          (flat-chain (finished t).formulas
+          rw (operator_chain o h)
+          (flat_chain (finished t).formulas
           (rules (length t.initial) (finished t).originals (built_at t o).changes)
-          (rules-distinct (length t.initial) (finished t).originals (built-upwards o h) (omega arith)))
-      go (no h) = rw (operator-past o (omega arith)) nothing
+          (rules_distinct (length t.initial) (finished t).originals (built_upwards o h) (omega arith)))
+      go (no h) = rw (operator_past o (omega arith)) nothing

@@ -18,7 +18,7 @@ use Rattle.normal_form.proofs.Place.{place_found}
 use Rattle.normal_form.proofs.ShapeRule.{conjunct, atom_variable}
 use Rattle.normal_form.proofs.ShapeWritten.{chain_on, chain}
 use Rattle.normal_form.proofs.ShapeEach.{Upwards, start, next}
-use Rattle.normal_form.proofs.ShapeRules.{All, none, also, all_append, all_map, rules-of-all, rules_snoc}
+use Rattle.normal_form.proofs.ShapeRules.{All, none, also, all_append, all_map, rules_of_all, rules_snoc}
 
 -- the atoms of rules, in their order
 abbrev pub atoms : List Rule → List Atom
@@ -26,23 +26,23 @@ atoms [] = []
 atoms (r ∷ rs) = r.atom ∷ atoms rs
 
 module _ (formulas : List Row) where
-  conjuncts-on :
+  conjuncts_on :
       (e : Effect) (ls : List Atom) (rs : List Rule)
       → Conjuncts e ls
       → Conjuncts (chain_on formulas e rs) (ls ++ atoms rs)
   unfolding chain_on conjunct
-  conjuncts-on e ls [] c = rw append-nil c
-  conjuncts-on e ls (r ∷ rs) c =
+  conjuncts_on e ls [] c = rw append-nil c
+  conjuncts_on e ls (r ∷ rs) c =
       rw append_assoc at
-      (conjuncts-on (both e (conjunct formulas r)) (ls ++ (r.atom ∷ [])) rs
+      (conjuncts_on (both e (conjunct formulas r)) (ls ++ (r.atom ∷ [])) rs
       (more c (one (formula_of formulas r.condition) r.atom)))
 
-  pub flat-chain : (rs : List Rule) → Distinct (atoms rs) → Flat (chain formulas rs)
+  pub flat_chain : (rs : List Rule) → Distinct (atoms rs) → Flat (chain formulas rs)
   unfolding chain conjunct
-  flat-chain [] d = nothing
-  flat-chain (r ∷ rs) d =
+  flat_chain [] d = nothing
+  flat_chain (r ∷ rs) d =
       conjunctive
-      (conjuncts-on (conjunct formulas r) (r.atom ∷ []) rs (one (formula_of formulas r.condition) r.atom)) d
+      (conjuncts_on (conjunct formulas r) (r.atom ∷ []) rs (one (formula_of formulas r.condition) r.atom)) d
 
 set_not_clear : (v w : ℕ) → sets v ≡ clears w → ⊥
 set_not_clear v w e =
@@ -67,13 +67,13 @@ module _ (n : ℕ) (twins : List ℕ) where
   owner : ℕ → ℕ
   owner x = cond (ltb x n) x (get_or twins (x - n) 0)
 
-  owner-own : (v : ℕ) → v < n → owner v ≡ v
+  owner_own : (v : ℕ) → v < n → owner v ≡ v
   unfolding owner
-  owner-own v h = rw (lt-ltb v n h)
+  owner_own v h = rw (lt-ltb v n h)
 
-  owner-twin : (v : ℕ) → place eqb v twins < length twins → owner (n + place eqb v twins) ≡ v
+  owner_twin : (v : ℕ) → place eqb v twins < length twins → owner (n + place eqb v twins) ≡ v
   unfolding owner
-  owner-twin v h =
+  owner_twin v h =
       let k = place eqb v twins in
       let e : n + k - n ≡ k = omega arith in
       rw (le-ltb (n + k) n (omega arith), e) (place_found v twins h)
@@ -82,23 +82,23 @@ module _ (n : ℕ) (twins : List ℕ) where
   owner_of r = owner (atom_variable r.atom)
 
   -- the rules of one variable are its own
-  rules-of-owned : (c : Changes) → c.variable < n → All (λ r. owner_of r ≡ c.variable) (rules_of n twins c)
+  rules_of_owned : (c : Changes) → c.variable < n → All (λ r. owner_of r ≡ c.variable) (rules_of n twins c)
   unfolding atom_variable
-  rules-of-owned c h =
-      rules-of-all (λ r. owner_of r ≡ c.variable) n twins c (owner-own c.variable h) (owner-own c.variable h)
-      (λ b. (owner-twin c.variable b, owner-twin c.variable b))
+  rules_of_owned c h =
+      rules_of_all (λ r. owner_of r ≡ c.variable) n twins c (owner_own c.variable h) (owner_own c.variable h)
+      (λ b. (owner_twin c.variable b, owner_twin c.variable b))
 
-  absent-owned :
+  absent_owned :
       (l : Atom) (m : ℕ) {rs : List Rule}
       → owner (atom_variable l) < m
       → All (λ r. owner_of r ≡ m) rs
       → Absent l (atoms rs)
-  absent-owned l m h none = tt
-  absent-owned l m h (also {x = r} p ps) = (
+  absent_owned l m h none = tt
+  absent_owned l m h (also {x = r} p ps) = (
     λ e.
         let q : owner (atom_variable l) ≡ owner_of r = ap (λ (a : Atom). owner (atom_variable a)) e in
         omega arith,
-    absent-owned l m h ps,
+    absent_owned l m h ps,
   )
 
   distinct_append :
@@ -110,12 +110,12 @@ module _ (n : ℕ) (twins : List ℕ) where
       → Distinct (atoms (rs ++ qs))
   distinct_append m [] qs none q d e = e
   distinct_append m (r ∷ rs) qs (also p ps) q d e =
-      (absent_append r.atom rs qs d.0 (absent-owned r.atom m p q), distinct_append m rs qs ps q d.1 e)
+      (absent_append r.atom rs qs d.0 (absent_owned r.atom m p q), distinct_append m rs qs ps q d.1 e)
 
   -- a variable's rules: set it, clear its twin, clear it, set its twin, each at most once
-  rules-of-distinct : (c : Changes) → c.variable < n → Distinct (atoms (rules_of n twins c))
+  rules_of_distinct : (c : Changes) → c.variable < n → Distinct (atoms (rules_of n twins c))
   unfolding rules_of rule with_twin
-  rules-of-distinct c h = go (eqb c.adds 0) (eqb c.deletes 0) (ltb (place eqb c.variable twins) (length twins))
+  rules_of_distinct c h = go (eqb c.adds 0) (eqb c.deletes 0) (ltb (place eqb c.variable twins) (length twins))
     where
       v : ℕ
       v = c.variable
@@ -159,23 +159,23 @@ module _ (n : ℕ) (twins : List ℕ) where
       → Apart (suc m) (rules n twins cs ++ rules_of n twins c)
   apart_next m cs c e h a =
       let own : All (λ r. owner_of r ≡ m) (rules_of n twins c) =
-      all_map (λ r q. q ∙ e) (rules-of-owned c (omega arith))
+      all_map (λ r q. q ∙ e) (rules_of_owned c (omega arith))
       in
       record {
         below = all_append (all_map (λ r q. omega arith) a.below) (all_map (λ r q. omega arith) own);
         once =
             distinct_append m (rules n twins cs) (rules_of n twins c) a.below own a.once
-            (rules-of-distinct c (omega arith));
+            (rules_of_distinct c (omega arith));
       }
 
-  rules-apart : {m : ℕ} {cs : List Changes} → Upwards m cs → m ≤ n → Apart m (rules n twins cs)
+  rules_apart : {m : ℕ} {cs : List Changes} → Upwards m cs → m ≤ n → Apart m (rules n twins cs)
   unfolding rules
-  rules-apart start h = record { below = none; once = tt }
-  rules-apart (next {m = m} {cs = cs} c e u) h =
-      rw (rules_snoc n twins cs c) (apart_next m cs c e (omega arith) (rules-apart u (omega arith)))
+  rules_apart start h = record { below = none; once = tt }
+  rules_apart (next {m = m} {cs = cs} c e u) h =
+      rw (rules_snoc n twins cs c) (apart_next m cs c e (omega arith) (rules_apart u (omega arith)))
 
-  pub rules-distinct : {m : ℕ} {cs : List Changes} → Upwards m cs → m ≤ n → Distinct (atoms (rules n twins cs))
-  rules-distinct u h = (rules-apart u h).once
+  pub rules_distinct : {m : ℕ} {cs : List Changes} → Upwards m cs → m ≤ n → Distinct (atoms (rules n twins cs))
+  rules_distinct u h = (rules_apart u h).once
 
 pub twice : (p q : Formula) (l : Atom) → Flat (both (under p (atomic l)) (under q (atomic l))) → ⊥
 twice p q l (conjunctive (more (one p2 l2) (one q2 l3)) d) = d.0.0 refl

@@ -12,8 +12,8 @@ use borrow.Author.Tests.{eqb-true, eq-eqb, ne_eqb}
 use Rattle.task.specs.Table.{Task}
 use Rattle.task.specs.Rules.{Limits, Checked}
 use Rattle.normal_form.specs.Finished.{built, finished}
-use Rattle.normal_form.proofs.ShapeFinished.{finished-operators}
-use Rattle.normal_form.proofs.ShapePassed.{finished-variables, finished-fine}
+use Rattle.normal_form.proofs.ShapeFinished.{finished_operators}
+use Rattle.normal_form.proofs.ShapePassed.{finished_variables, finished_fine}
 
 -- f 0 + f 1 + .. + f (n - 1)
 sum : ℕ → (ℕ → ℕ) → ℕ
@@ -104,7 +104,7 @@ once_few n l below once =
 pub twins_few : (t : Task) → Checked t → length (finished t).originals ≤ length t.initial
 unfolding finished
 twins_few t source =
-    let f = finished-fine t source in
+    let f = finished_fine t source in
     once_few (length t.initial) (built t).st.twins f.twin_below f.twin_once
 
 pub finished_limits :
@@ -116,13 +116,13 @@ pub finished_limits :
     → Limits (finished t)
 finished_limits t source v f e =
     record {
-      variables = omega (arith, finished-variables t);
-      twins = omega (arith, finished-variables t, twins_few t source);
+      variables = omega (arith, finished_variables t);
+      twins = omega (arith, finished_variables t, twins_few t source);
       one_formula = two_rows;
       formulas = f;
       effects = e;
-      operators = omega (arith, finished-operators t, source.limits.operators);
+      operators = omega (arith, finished_operators t, source.limits.operators);
     }
   where
     two_rows : 1 ≤ length (finished t).formulas
-    two_rows = unfold finished in omega (arith, (finished-fine t source).two)
+    two_rows = unfold finished in omega (arith, (finished_fine t source).two)

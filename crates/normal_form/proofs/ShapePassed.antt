@@ -18,12 +18,12 @@ use Rattle.normal_form.specs.Assembly.{rules, unassembled}
 use Rattle.normal_form.specs.Finished.{built, assembled, twin_values, finished}
 use Rattle.normal_form.specs.Positive.{Positive, PositiveTask}
 use Rattle.normal_form.proofs.Fine.{PositiveKind, Fine}
-use Rattle.normal_form.proofs.MeaningParts.{good-parts}
+use Rattle.normal_form.proofs.MeaningParts.{good_parts}
 use Rattle.normal_form.proofs.ShapeRule.{Fits}
 use Rattle.normal_form.proofs.ShapeRules.{All}
-use Rattle.normal_form.proofs.ShapeEffects.{all_at, ChangesFit, rules_fit, assemble-sound}
-use Rattle.normal_form.proofs.ShapePositive.{positive-task}
-use Rattle.normal_form.proofs.ShapeFinished.{no_changes, no_built, built_at, built-operators, finished-operators, finished-operator}
+use Rattle.normal_form.proofs.ShapeEffects.{all_at, ChangesFit, rules_fit, assemble_sound}
+use Rattle.normal_form.proofs.ShapePositive.{positive_task}
+use Rattle.normal_form.proofs.ShapeFinished.{no_changes, no_built, built_at, built_operators, finished_operators, finished_operator}
 
 -- a twin's value is 0 or 1
 twin_bit : (initial twins : List ℕ) (k : ℕ) → get_or (twin_values initial twins) k 0 ≤ 1
@@ -52,9 +52,9 @@ bits initial twins h v = go (dec_lt v (length initial))
         rw (e, get_or-append-add initial (twin_values initial twins) k 0) (twin_bit initial twins k)
 
 module _ (t : Task) where
-  pub finished-variables : length (finished t).initial ≡ length t.initial + length (finished t).originals
+  pub finished_variables : length (finished t).initial ≡ length t.initial + length (finished t).originals
   unfolding finished
-  finished-variables =
+  finished_variables =
       length-append t.initial (twin_values t.initial (built t).st.twins)
       ∙ ap (λ (k : ℕ). length t.initial + k) (twins_length t.initial (built t).st.twins)
 
@@ -62,14 +62,14 @@ module _ (t : Task) (source : Checked t) where
   abbrev n : ℕ
   n = length t.initial
 
-  pub finished-fine : Fine PositiveKind (length t.initial) (built t).st
-  finished-fine = (good-parts t source).fine
+  pub finished_fine : Fine PositiveKind (length t.initial) (built t).st
+  finished_fine = (good_parts t source).fine
 
   -- each operator's rules fit the variables, twins and formulas that stand in the end
-  built-fit :
+  built_fit :
       All (λ b. All (Fits (n + length (built t).st.twins) (length (built t).st.rows)) (rules n (built t).st.twins b.changes))
       (built t).value.operators
-  built-fit = all_at _ no_built (built t).value.operators each-operator
+  built_fit = all_at _ no_built (built t).value.operators each-operator
     where
       each-operator :
           (o : ℕ)
@@ -77,7 +77,7 @@ module _ (t : Task) (source : Checked t) where
           → All (Fits (n + length (built t).st.twins) (length (built t).st.rows))
           (rules n (built t).st.twins (built_at t o).changes)
       each-operator o h =
-          let b = (good-parts t source).value.operators.at no_built o (rw (built-operators t) at h) in
+          let b = (good_parts t source).value.operators.at no_built o (rw (built_operators t) at h) in
           rules_fit n (length (built t).st.rows) (built t).st.twins (built_at t o).changes
           (all_at (ChangesFit n (length (built t).st.rows)) no_changes (built_at t o).changes
           (λ v l.
@@ -85,11 +85,11 @@ module _ (t : Task) (source : Checked t) where
           let c = b.changes.at no_changes v below in
           record { variable = rw c.variable below; adds = c.adds.below; deletes = c.deletes.below }))
 
-  finished-effects : EffectsDown (n + length (built t).st.twins) (length (built t).st.rows) (assembled t).effects
+  finished_effects : EffectsDown (n + length (built t).st.twins) (length (built t).st.rows) (assembled t).effects
   unfolding assembled unassembled effect_kind
-  finished-effects =
-      (assemble-sound (n + length (built t).st.twins) (length (built t).st.rows) n (built t).st.twins unassembled
-      (built t).value.operators built-fit
+  finished_effects =
+      (assemble_sound (n + length (built t).st.twins) (length (built t).st.rows) n (built t).st.twins unassembled
+      (built t).value.operators built_fit
       (record {
         down =
             effects_more (n + length (built t).st.twins) (length (built t).st.rows) []
@@ -101,33 +101,33 @@ module _ (t : Task) (source : Checked t) where
 
   pub positive : Positive (finished t)
   unfolding finished
-  positive = record { row = finished-fine.kinds }
+  positive = record { row = finished_fine.kinds }
 
-  pub finished-positive : PositiveTask (finished t)
-  finished-positive = positive-task (finished t) positive
+  pub finished_positive : PositiveTask (finished t)
+  finished_positive = positive_task (finished t) positive
 
-  finished-operator-rule :
+  finished_operator_rule :
       (o : ℕ)
       → o < length (assembled t).operators
       → OperatorRule (length (built t).st.rows) (length (assembled t).effects) (get_or (assembled t).operators o no_operator)
   unfolding finished operator_of
-  finished-operator-rule o h =
-      let b : o < length t.operators = rw (finished-operators t) at h in
-      let w = finished-operator t o b in
+  finished_operator_rule o h =
+      let b : o < length t.operators = rw (finished_operators t) at h in
+      let w = finished_operator t o b in
       record {
-        formula = rw w.precondition ((good-parts t source).value.operators.at no_built o b).precondition.below;
+        formula = rw w.precondition ((good_parts t source).value.operators.at no_built o b).precondition.below;
         changes = w.there;
         percent =
-            rw (w.percent ∙ ap (λ (x : Operator). x.percent) ((good-parts t source).value.operators.at no_built o b).source)
+            rw (w.percent ∙ ap (λ (x : Operator). x.percent) ((good_parts t source).value.operators.at no_built o b).source)
             (source.operator o b).percent;
       }
 
-  pub finished-rules : Limits (finished t) → Checked (finished t)
+  pub finished_rules : Limits (finished t) → Checked (finished t)
   unfolding finished
-  finished-rules limits =
-      let fine = finished-fine in
-      let parts = (good-parts t source).value in
-      let width = finished-variables t in
+  finished_rules limits =
+      let fine = finished_fine in
+      let parts = (good_parts t source).value in
+      let width = finished_variables t in
       record {
         limits = limits;
         goal_is_formula = parts.goal.below;
@@ -135,9 +135,9 @@ module _ (t : Task) (source : Checked t) where
         twin =
             λ k h. record { below = omega (arith, fine.twin_below k h); once = λ j lower. fine.twin_once j k lower h };
         formula = λ i h. rw width (fine.down.row i h);
-        effect = λ i h. rw width (finished-effects.row i h);
-        operator = finished-operator-rule;
+        effect = λ i h. rw width (finished_effects.row i h);
+        operator = finished_operator_rule;
       }
 
-  pub finished-passes : Limits (finished t) → refusal (lent_of (finished t)) ≡ 0
-  finished-passes limits = lent_kept (finished t) (finished-rules limits)
+  pub finished_passes : Limits (finished t) → refusal (lent_of (finished t)) ≡ 0
+  finished_passes limits = lent_kept (finished t) (finished_rules limits)

@@ -43,43 +43,43 @@ effect_node_positive unknown_effect a p e f h g i = tt
 
 module _ (t : Task) (table : Positive t) where
   -- past the table's end stands "false"
-  row-positive : (i : ℕ) → PositiveKind (formula_kind (get_or t.formulas i no_row).kind)
+  row_positive : (i : ℕ) → PositiveKind (formula_kind (get_or t.formulas i no_row).kind)
   unfolding formula_kind
-  row-positive i = go (dec_lt i (length t.formulas))
+  row_positive i = go (dec_lt i (length t.formulas))
     where
       go : Dec (i < length t.formulas) → PositiveKind (formula_kind (get_or t.formulas i no_row).kind)
       go (yes h) = table.row i h
       go (no h) = rw (get_or-eq_default t.formulas no_row {n = i} (omega arith)) tt
 
-  within-positive : (d i : ℕ) → PositiveFormula (formula_within d t.formulas i)
+  within_positive : (d i : ℕ) → PositiveFormula (formula_within d t.formulas i)
   unfolding formula_within
-  within-positive zero i = tt
-  within-positive (suc d) i =
+  within_positive zero i = tt
+  within_positive (suc d) i =
       let r = get_or t.formulas i no_row in
       formula_node_positive (formula_kind r.kind) r.a (formula_within d t.formulas r.a)
-      (formula_within d t.formulas r.b) (row-positive i) (within-positive d r.a) (within-positive d r.b)
+      (formula_within d t.formulas r.b) (row_positive i) (within_positive d r.a) (within_positive d r.b)
 
-  pub formula-positive : (i : ℕ) → PositiveFormula (formula_of t.formulas i)
+  pub formula_positive : (i : ℕ) → PositiveFormula (formula_of t.formulas i)
   unfolding formula_of
-  formula-positive i = within-positive (suc i) i
+  formula_positive i = within_positive (suc i) i
 
-  effect-within-positive : (d i : ℕ) → PositiveEffect (effect_within d t.formulas t.effects i)
+  effect_within_positive : (d i : ℕ) → PositiveEffect (effect_within d t.formulas t.effects i)
   unfolding effect_within
-  effect-within-positive zero i = tt
-  effect-within-positive (suc d) i =
+  effect_within_positive zero i = tt
+  effect_within_positive (suc d) i =
       let r = get_or t.effects i no_row in
       effect_node_positive (effect_kind r.kind) r.a (formula_of t.formulas r.a)
       (effect_within d t.formulas t.effects r.a) (effect_within d t.formulas t.effects r.b)
-      (formula-positive r.a) (effect-within-positive d r.a) (effect-within-positive d r.b)
+      (formula_positive r.a) (effect_within_positive d r.a) (effect_within_positive d r.b)
 
-  pub positive-task : PositiveTask t
+  pub positive_task : PositiveTask t
   unfolding effect_of_operator effect_of
-  positive-task =
+  positive_task =
       record {
-        goal = formula-positive t.goal;
-        precondition = λ o. formula-positive (operator_of t o).precondition;
+        goal = formula_positive t.goal;
+        precondition = λ o. formula_positive (operator_of t o).precondition;
         conditions =
             λ o.
             let i = (operator_of t o).effect in
-            effect-within-positive (suc i) i;
+            effect_within_positive (suc i) i;
       }

@@ -12,7 +12,7 @@ use Rattle.task.specs.Table.{Row, effect_kind}
 use Rattle.task.specs.Rules.{no_row}
 use Rattle.task.specs.Semantics.{Formula, Atom, sets, clears, Effect, atomic, both, under}
 use Rattle.task.specs.Tree.{formula_of, effect_node, effect_of}
-use Rattle.task.proofs.Trees.{effect-unfolds, effect-appends}
+use Rattle.task.proofs.Trees.{effect_unfolds, effect_appends}
 use Rattle.task.specs.Inner.Rows.{EffectKept, EffectsDown}
 use Rattle.task.proofs.Down.{effects_more}
 use Rattle.normal_form.specs.Growth.{Prefix}
@@ -92,9 +92,9 @@ unfolding write_rule rule_rows
 write_cond w r = refl
 
 module _ (v f : ℕ) (w : Written) (r : Rule) (fits : Fits v f r) (sound : Sound v f w) where
-  first-sound : Sound v f (first w r)
+  first_sound : Sound v f (first w r)
   unfolding effect_kind
-  first-sound =
+  first_sound =
       record {
         down =
             two_more v f w.rows (atom_row r.atom) (under_row r.condition (length w.rows)) sound.down
@@ -102,9 +102,9 @@ module _ (v f : ℕ) (w : Written) (r : Rule) (fits : Fits v f r) (sound : Sound
         there = simp length-append (omega arith);
       }
 
-  next-sound : Sound v f (next w r)
+  next_sound : Sound v f (next w r)
   unfolding effect_kind
-  next-sound =
+  next_sound =
       record {
         down =
             three_more v f w.rows (atom_row r.atom) (under_row r.condition (length w.rows))
@@ -114,12 +114,12 @@ module _ (v f : ℕ) (w : Written) (r : Rule) (fits : Fits v f r) (sound : Sound
         there = simp length-append (omega arith);
       }
 
-  pub write-sound : Sound v f (write_rule w r)
-  write-sound = rw (write_cond w r) (go (eqb w.stands 0))
+  pub write_sound : Sound v f (write_rule w r)
+  write_sound = rw (write_cond w r) (go (eqb w.stands 0))
     where
       go : (b : Bool) → Sound v f (cond b (first w r) (next w r))
-      go true = first-sound
-      go false = next-sound
+      go true = first_sound
+      go false = next_sound
 
 atom_node :
     (l : Atom) (p : Formula) (e f : Effect)
@@ -130,7 +130,7 @@ atom_node (clears v) p e f = refl
 
 module _ (formulas : List Row) where
   -- the tree of a row that is known
-  tree-at :
+  tree_at :
       (v f : ℕ) (rows : List Row) (i : ℕ) (r : Row)
       → EffectsDown v f rows
       → i < length rows
@@ -138,52 +138,52 @@ module _ (formulas : List Row) where
       → effect_of formulas rows i
       ≡ effect_node (effect_kind r.kind) r.a (formula_of formulas r.a) (effect_of formulas rows r.a)
       (effect_of formulas rows r.b)
-  tree-at v f rows i r down h e = rw (← e) (effect-unfolds v f formulas rows down i h)
+  tree_at v f rows i r down h e = rw (← e) (effect_unfolds v f formulas rows down i h)
 
   -- the second row of a rule, whatever follows it
-  conjunct-tree :
+  conjunct_tree :
       (v f : ℕ) (rows : List Row) (r : Rule) (rest : List Row)
       → let all = rows ++ (atom_row r.atom ∷ under_row r.condition (length rows) ∷ rest) in
       EffectsDown v f all
       → effect_of formulas all (length rows + 1) ≡ conjunct formulas r
   unfolding conjunct effect_node effect_kind
-  conjunct-tree v f rows r rest down =
+  conjunct_tree v f rows r rest down =
       let a = atom_row r.atom in
       let u = under_row r.condition (length rows) in
       let all = rows ++ (a ∷ u ∷ rest) in
-      tree-at v f all (length rows + 1) u down (simp length-append (omega arith)) (get_or-append-add rows (a ∷ u ∷ rest) 1 no_row)
+      tree_at v f all (length rows + 1) u down (simp length-append (omega arith)) (get_or-append-add rows (a ∷ u ∷ rest) 1 no_row)
       ∙ ap {B = Effect} (λ e. under (formula_of formulas r.condition) e)
-      (tree-at v f all (length rows) a down (simp length-append (omega arith)) (get_or-append_seam rows a (u ∷ rest) no_row)
+      (tree_at v f all (length rows) a down (simp length-append (omega arith)) (get_or-append_seam rows a (u ∷ rest) no_row)
       ∙ atom_node r.atom (formula_of formulas a.a) (effect_of formulas all a.a) (effect_of formulas all a.b))
 
   module _ (v f : ℕ) (w : Written) (r : Rule) (fits : Fits v f r) (sound : Sound v f w) where
-    first-tree : effect_of formulas (first w r).rows (first w r).stands ≡ conjunct formulas r
-    first-tree = conjunct-tree v f w.rows r [] (first-sound v f w r fits sound).down
+    first_tree : effect_of formulas (first w r).rows (first w r).stands ≡ conjunct formulas r
+    first_tree = conjunct_tree v f w.rows r [] (first_sound v f w r fits sound).down
 
-    next-tree :
+    next_tree :
         effect_of formulas (next w r).rows (next w r).stands
         ≡ both (effect_of formulas w.rows w.stands) (conjunct formulas r)
     unfolding effect_node effect_kind
-    next-tree =
-        let down = (next-sound v f w r fits sound).down in
+    next_tree =
+        let down = (next_sound v f w r fits sound).down in
         let a = atom_row r.atom in
         let u = under_row r.condition (length w.rows) in
         let b = both_row w.stands (length w.rows + 1) in
-        tree-at v f (next w r).rows (length w.rows + 2) b down (simp length-append (omega arith))
+        tree_at v f (next w r).rows (length w.rows + 2) b down (simp length-append (omega arith))
         (get_or-append-add w.rows (a ∷ u ∷ b ∷ []) 2 no_row)
-        ∙ ap₂ both (effect-appends v f formulas w.rows sound.down (a ∷ u ∷ b ∷ []) w.stands sound.there)
-        (conjunct-tree v f w.rows r (b ∷ []) down)
+        ∙ ap₂ both (effect_appends v f formulas w.rows sound.down (a ∷ u ∷ b ∷ []) w.stands sound.there)
+        (conjunct_tree v f w.rows r (b ∷ []) down)
 
     -- an operator's first rule stands alone; each other is joined to what stands
-    pub write-first :
+    pub write_first :
         w.stands ≡ 0 → effect_of formulas (write_rule w r).rows (write_rule w r).stands ≡ conjunct formulas r
-    write-first e = rw (write_cond w r, eq-eqb w.stands 0 e) first-tree
+    write_first e = rw (write_cond w r, eq-eqb w.stands 0 e) first_tree
 
-    pub write-next :
+    pub write_next :
         (w.stands ≡ 0 → ⊥)
         → effect_of formulas (write_rule w r).rows (write_rule w r).stands
         ≡ both (effect_of formulas w.rows w.stands) (conjunct formulas r)
-    write-next n = rw (write_cond w r, ne_eqb w.stands 0 n) next-tree
+    write_next n = rw (write_cond w r, ne_eqb w.stands 0 n) next_tree
 
 -- what stands after a rule is not row 0
 pub write_stands : (w : Written) (r : Rule) → (write_rule w r).stands ≡ 0 → ⊥

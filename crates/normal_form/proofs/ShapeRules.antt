@@ -25,20 +25,20 @@ all_map f none = none
 all_map f (also {x = x} p ps) = also (f x p) (all_map f ps)
 
 module _ (P : Rule → Type 0) where
-  rule-all : (c : ℕ) (l : Atom) → P (record { condition = c; atom = l }) → All P (rule c l)
+  rule_all : (c : ℕ) (l : Atom) → P (record { condition = c; atom = l }) → All P (rule c l)
   unfolding rule
-  rule-all c l p = go (eqb c 0)
+  rule_all c l p = go (eqb c 0)
     where
       go : (b : Bool) → All P (cond b [] (record { condition = c; atom = l } ∷ []))
       go true = none
       go false = also p none
 
-  twin-all :
+  twin_all :
       (n : ℕ) (twins : List ℕ) (v : ℕ) (make : ℕ → List Rule)
       → (place eqb v twins < length twins → All P (make (n + place eqb v twins)))
       → All P (with_twin n twins v make)
   unfolding with_twin
-  twin-all n twins v make p = go (ltb (place eqb v twins) (length twins)) refl
+  twin_all n twins v make p = go (ltb (place eqb v twins) (length twins)) refl
     where
       go :
           (b : Bool)
@@ -47,7 +47,7 @@ module _ (P : Rule → Type 0) where
       go true e = p (ltb-true (place eqb v twins) (length twins) e)
       go false e = none
 
-  pub rules-of-all :
+  pub rules_of_all :
       (n : ℕ) (twins : List ℕ) (c : Changes)
       → P (record { condition = c.adds; atom = sets c.variable })
       → P (record { condition = c.deletes; atom = clears c.variable })
@@ -57,20 +57,20 @@ module _ (P : Rule → Type 0) where
       × P (record { condition = c.deletes; atom = sets (n + k) }))
       → All P (rules_of n twins c)
   unfolding rules_of
-  rules-of-all n twins c p q t =
+  rules_of_all n twins c p q t =
       let w = n + place eqb c.variable twins in
-      all_append (rule-all c.adds (sets c.variable) p)
-      (all_append (twin-all n twins c.variable (λ w. rule c.adds (clears w)) (λ h. rule-all c.adds (clears w) (t h).0))
-      (all_append (rule-all c.deletes (clears c.variable) q)
-      (twin-all n twins c.variable (λ w. rule c.deletes (sets w)) (λ h. rule-all c.deletes (sets w) (t h).1))))
+      all_append (rule_all c.adds (sets c.variable) p)
+      (all_append (twin_all n twins c.variable (λ w. rule c.adds (clears w)) (λ h. rule_all c.adds (clears w) (t h).0))
+      (all_append (rule_all c.deletes (clears c.variable) q)
+      (twin_all n twins c.variable (λ w. rule c.deletes (sets w)) (λ h. rule_all c.deletes (sets w) (t h).1))))
 
-  pub rules-all :
+  pub rules_all :
       (n : ℕ) (twins : List ℕ) (cs : List Changes)
       → All (λ c. All P (rules_of n twins c)) cs
       → All P (rules n twins cs)
   unfolding rules
-  rules-all n twins [] none = none
-  rules-all n twins (c ∷ cs) (also p ps) = all_append p (rules-all n twins cs ps)
+  rules_all n twins [] none = none
+  rules_all n twins (c ∷ cs) (also p ps) = all_append p (rules_all n twins cs ps)
 
 -- the rules of one more variable
 pub rules_snoc :

@@ -16,7 +16,7 @@ use Rattle.normal_form.specs.Conditions.{Becoming, condition}
 use Rattle.normal_form.specs.Operators.{Changes, changes_of, built_operator, parts}
 use Rattle.normal_form.specs.Finished.{built, finished}
 use Rattle.normal_form.proofs.Growth.{longer, grows_refl, grows_trans, steady_give, steady_bind}
-use Rattle.normal_form.proofs.Steady.{steady_image, steady-condition, steady-deletes, steady-changes, steady_operator}
+use Rattle.normal_form.proofs.Steady.{steady_image, steady_condition, steady_deletes, steady_changes, steady_operator}
 
 -- No more rows and no more twins.
 pub record Fewer (s t : St) : Type 0 where
@@ -56,23 +56,23 @@ each_grows f s h k (suc n) b = go (dec_le k n) (each_grows f s h k n)
 -- The moments of building one variable's changes, an operator, and the task.
 module _ (becomes : Becoming) (steady : (p : Polarity) (f : Formula) → Steady (becomes p f)) (e : Effect) (v : ℕ) (s : St) where
   -- after A
-  pub adds-grows : Grows (condition becomes plain (sets v) e s).st (changes_of becomes e v s).st
+  pub adds_grows : Grows (condition becomes plain (sets v) e s).st (changes_of becomes e v s).st
   unfolding changes_of
-  adds-grows =
+  adds_grows =
       bind_grows (condition becomes plain (sets v) e) _ s
       (λ a.
-      steady_bind (steady-condition becomes steady plain (clears v) e)
-      (λ d. steady_bind (steady-deletes becomes steady e v a d) (λ k. steady_give _)))
+      steady_bind (steady_condition becomes steady plain (clears v) e)
+      (λ d. steady_bind (steady_deletes becomes steady e v a d) (λ k. steady_give _)))
 
   -- after D, before it is freed of A
-  pub deletes-grows :
+  pub deletes_grows :
       Grows (condition becomes plain (clears v) e (condition becomes plain (sets v) e s).st).st (changes_of becomes e v s).st
   unfolding changes_of bind
-  deletes-grows =
+  deletes_grows =
       let a = condition becomes plain (sets v) e s in
       bind_grows (condition becomes plain (clears v) e) _ a.st
       (λ d.
-      steady_bind (steady-deletes becomes steady e v a.value d)
+      steady_bind (steady_deletes becomes steady e v a.value d)
       (λ k. steady_give (record { variable = v; adds = a.value; deletes = k })))
 
 module _ (t : Task) where
@@ -86,31 +86,31 @@ module _ (t : Task) where
   changes_at o = changes_of (image (length t.initial)) (effect_of_operator t o)
 
   -- in operator o, before variable v; before variable 0 stands the precondition
-  pub variable-grows :
+  pub variable_grows :
       (o v : ℕ) (s : St)
       → v ≤ length t.initial
       → Grows (each v (changes_at o) (precondition_of o s).st).st (built_operator t o s).st
   unfolding built_operator bind give
-  variable-grows o v s h =
-      each_grows (changes_at o) (precondition_of o s).st (steady-changes (image variables) (steady_image variables) (effect_of_operator t o)) v variables h
+  variable_grows o v s h =
+      each_grows (changes_at o) (precondition_of o s).st (steady_changes (image variables) (steady_image variables) (effect_of_operator t o)) v variables h
 
   -- before operator o; before the goal, o is their number
-  pub operator-grows :
+  pub operator_grows :
       (o : ℕ) → o ≤ length t.operators → Grows (each o (built_operator t) start).st (built t).st
   unfolding built parts
-  operator-grows o h =
+  operator_grows o h =
       grows_trans (each_grows (built_operator t) start (steady_operator t) o (length t.operators) h)
       (bind_grows (each (length t.operators) (built_operator t)) _ start
       (λ b. steady_bind (steady_image variables plain _) (λ g. steady_give _)))
 
   -- in operator o of the task, before variable v
-  pub moment-grows :
+  pub moment_grows :
       (o v : ℕ)
       → o < length t.operators
       → v ≤ length t.initial
       → Grows (each v (changes_at o) (precondition_of o (each o (built_operator t) start).st).st).st (built t).st
-  moment-grows o v h l =
-      grows_trans (variable-grows o v (each o (built_operator t) start).st l) (next (operator-grows (suc o) h))
+  moment_grows o v h l =
+      grows_trans (variable_grows o v (each o (built_operator t) start).st l) (next (operator_grows (suc o) h))
     where
       next :
           Grows (each (suc o) (built_operator t) start).st (built t).st

@@ -8,13 +8,13 @@ use Rattle.task.specs.Table.{Row, effect_kind}
 use Rattle.task.specs.Rules.{no_row}
 use Rattle.task.specs.Semantics.{Effect, empty, both}
 use Rattle.task.specs.Tree.{effect_node, effect_within, effect_of}
-use Rattle.task.proofs.Trees.{effect-appends}
+use Rattle.task.proofs.Trees.{effect_appends}
 use Rattle.task.specs.Inner.Rows.{EffectsDown}
 use Rattle.task.proofs.Down.{effects_wider}
 use Rattle.normal_form.specs.Growth.{Prefix}
 use Rattle.normal_form.specs.Assembly.{Rule, Written, write_rule, write_rules}
 use Rattle.normal_form.proofs.Growth.{prefix_refl, prefix_trans}
-use Rattle.normal_form.proofs.ShapeRule.{conjunct, atom_variable, Fits, Sound, write-sound, write-first, write-next, write_stands, write_prefix}
+use Rattle.normal_form.proofs.ShapeRule.{conjunct, atom_variable, Fits, Sound, write_sound, write_first, write_next, write_stands, write_prefix}
 
 -- what stands, and the rules, joined from the left
 unfoldable pub chain_on : List Row → Effect → List Rule → Effect
@@ -57,7 +57,7 @@ write_down w r d =
     record {
       variables = e.variables;
       formulas = e.formulas;
-      sound = write-sound e.variables e.formulas w r (fits_wider r d) e.sound;
+      sound = write_sound e.variables e.formulas w r (fits_wider r d) e.sound;
     }
 
 pub rules_down : (w : Written) (rs : List Rule) → Written_down w → Written_down (write_rules w rs)
@@ -78,35 +78,35 @@ pub tree_kept :
     → i < length rows
     → effect_of formulas more i ≡ effect_of formulas rows i
 tree_kept formulas {v} {f} {rows} i down p h =
-    rw p.whole (effect-appends v f formulas rows down p.rest i h)
+    rw p.whole (effect_appends v f formulas rows down p.rest i h)
 
 module _ (formulas : List Row) where
-  pub chain-tree :
+  pub chain_tree :
       (w : Written) (rs : List Rule)
       → Written_down w
       → (w.stands ≡ 0 → ⊥)
       → effect_of formulas (write_rules w rs).rows (write_rules w rs).stands
       ≡ chain_on formulas (effect_of formulas w.rows w.stands) rs
   unfolding write_rules chain_on
-  chain-tree w [] d n = refl
-  chain-tree w (r ∷ rs) d n =
+  chain_tree w [] d n = refl
+  chain_tree w (r ∷ rs) d n =
       let e = wider r d in
-      chain-tree (write_rule w r) rs (write_down w r d) (write_stands w r)
+      chain_tree (write_rule w r) rs (write_down w r d) (write_stands w r)
       ∙ ap (λ (x : Effect). chain_on formulas x rs)
-      (write-next formulas e.variables e.formulas w r (fits_wider r d) e.sound n)
+      (write_next formulas e.variables e.formulas w r (fits_wider r d) e.sound n)
 
   -- an operator's rules, from row 0, the empty effect
-  pub written-tree :
+  pub written_tree :
       (rows : List Row) (rs : List Rule)
       → Written_down (record { rows = rows; stands = 0 })
       → get_or rows 0 no_row ≡ no_row
       → let w = write_rules (record { rows = rows; stands = 0 }) rs in
       effect_of formulas w.rows w.stands ≡ chain formulas rs
   unfolding write_rules chain effect_of effect_within effect_node effect_kind
-  written-tree rows [] d e = rw e
-  written-tree rows (r ∷ rs) d e =
+  written_tree rows [] d e = rw e
+  written_tree rows (r ∷ rs) d e =
       let w : Written = record { rows = rows; stands = 0 } in
       let x = wider r d in
-      chain-tree (write_rule w r) rs (write_down w r d) (write_stands w r)
+      chain_tree (write_rule w r) rs (write_down w r d) (write_stands w r)
       ∙ ap (λ (x : Effect). chain_on formulas x rs)
-      (write-first formulas x.variables x.formulas w r (fits_wider r d) x.sound refl)
+      (write_first formulas x.variables x.formulas w r (fits_wider r d) x.sound refl)

@@ -53,32 +53,32 @@ steady_itself p f = steady_copy f
 
 -- Whatever a formula becomes, if that is steady.
 module _ (becomes : Becoming) (steady : (p : Polarity) (f : Formula) → Steady (becomes p f)) where
-  pub steady-guarded : (p : Polarity) (f : Formula) (c : ℕ) → Steady (guarded becomes p f c)
+  pub steady_guarded : (p : Polarity) (f : Formula) (c : ℕ) → Steady (guarded becomes p f c)
   unfolding guarded
-  steady-guarded p f c =
+  steady_guarded p f c =
       steady_cond (eqb c (image_of_false p)) (steady_give c) (steady_bind (steady p f) (λ a. steady_join p a c))
 
-  pub steady-condition : (p : Polarity) (l : Atom) (e : Effect) → Steady (condition becomes p l e)
+  pub steady_condition : (p : Polarity) (l : Atom) (e : Effect) → Steady (condition becomes p l e)
   unfolding condition
-  steady-condition p l empty = steady_give _
-  steady-condition p l (atomic m) = steady_give _
-  steady-condition p l (both e f) = steady_pair (opposite p) (steady-condition p l e) (steady-condition p l f)
-  steady-condition p l (under f e) = steady_bind (steady-condition p l e) (λ c. steady-guarded p f c)
+  steady_condition p l empty = steady_give _
+  steady_condition p l (atomic m) = steady_give _
+  steady_condition p l (both e f) = steady_pair (opposite p) (steady_condition p l e) (steady_condition p l f)
+  steady_condition p l (under f e) = steady_bind (steady_condition p l e) (λ c. steady_guarded p f c)
 
-  pub steady-deletes : (e : Effect) (v a d : ℕ) → Steady (deletes_of becomes e v a d)
+  pub steady_deletes : (e : Effect) (v a d : ℕ) → Steady (deletes_of becomes e v a d)
   unfolding deletes_of
-  steady-deletes e v a d =
+  steady_deletes e v a d =
       steady_cond (eqb a 0) (steady_give d)
       (steady_cond (eqb d 0) (steady_give d)
-      (steady_bind (steady-condition negated (sets v) e) (λ c. steady_join plain d c)))
+      (steady_bind (steady_condition negated (sets v) e) (λ c. steady_join plain d c)))
 
-  pub steady-changes : (e : Effect) (v : ℕ) → Steady (changes_of becomes e v)
+  pub steady_changes : (e : Effect) (v : ℕ) → Steady (changes_of becomes e v)
   unfolding changes_of
-  steady-changes e v =
-      steady_bind (steady-condition plain (sets v) e)
+  steady_changes e v =
+      steady_bind (steady_condition plain (sets v) e)
       (λ a.
-      steady_bind (steady-condition plain (clears v) e)
-      (λ d. steady_bind (steady-deletes e v a d) (λ k. steady_give _)))
+      steady_bind (steady_condition plain (clears v) e)
+      (λ d. steady_bind (steady_deletes e v a d) (λ k. steady_give _)))
 
 pub steady_operator : (t : Task) (o : ℕ) → Steady (built_operator t o)
 unfolding built_operator
@@ -86,7 +86,7 @@ steady_operator t o =
     steady_bind (steady_image (length t.initial) plain _)
     (λ p.
     steady_bind
-    (steady_each (length t.initial) (steady-changes (image (length t.initial)) (steady_image (length t.initial)) (effect_of_operator t o)))
+    (steady_each (length t.initial) (steady_changes (image (length t.initial)) (steady_image (length t.initial)) (effect_of_operator t o)))
     (λ c. steady_give _))
 
 pub steady_parts : (t : Task) → Steady (parts t)

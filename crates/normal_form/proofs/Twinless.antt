@@ -81,17 +81,17 @@ twinless_itself p f = twinless_copy f
 
 -- Whatever a formula becomes, if that meets no twin.
 module _ (becomes : Becoming) (twinless : (p : Polarity) (f : Formula) → Twinless (becomes p f)) where
-  pub twinless-guarded : (p : Polarity) (f : Formula) (c : ℕ) → Twinless (guarded becomes p f c)
+  pub twinless_guarded : (p : Polarity) (f : Formula) (c : ℕ) → Twinless (guarded becomes p f c)
   unfolding guarded
-  twinless-guarded p f c =
+  twinless_guarded p f c =
       twinless_cond (eqb c (image_of_false p)) (twinless_give c) (twinless_bind (twinless p f) (λ a. twinless_join p a c))
 
-  pub twinless-condition : (p : Polarity) (l : Atom) (e : Effect) → Twinless (condition becomes p l e)
+  pub twinless_condition : (p : Polarity) (l : Atom) (e : Effect) → Twinless (condition becomes p l e)
   unfolding condition
-  twinless-condition p l empty = twinless_give _
-  twinless-condition p l (atomic m) = twinless_give _
-  twinless-condition p l (both e f) = twinless_pair (opposite p) (twinless-condition p l e) (twinless-condition p l f)
-  twinless-condition p l (under f e) = twinless_bind (twinless-condition p l e) (λ c. twinless-guarded p f c)
+  twinless_condition p l empty = twinless_give _
+  twinless_condition p l (atomic m) = twinless_give _
+  twinless_condition p l (both e f) = twinless_pair (opposite p) (twinless_condition p l e) (twinless_condition p l f)
+  twinless_condition p l (under f e) = twinless_bind (twinless_condition p l e) (λ c. twinless_guarded p f c)
 
 -- A state of n variables seen beside itself, where no twin stands.
 module _ {n : ℕ} (s : St) (none : s.twins ≡ []) (state : List ℕ) (width : length state ≡ n) (bits : (v : ℕ) → v < length state → get_or state v 0 ≤ 1) where
@@ -113,5 +113,5 @@ module _ {n : ℕ} (s : St) (none : s.twins ≡ []) (state : List ℕ) (width : 
       }
 
   -- so a row that means b holds in the state itself where b does
-  pub means-alone : {b : List ℕ → Bool} {a : ℕ} → Means n b s a → holds state (formula_of s.rows a) ≡ b state
-  means-alone m = m.value seen_alone
+  pub means_alone : {b : List ℕ → Bool} {a : ℕ} → Means n b s a → holds state (formula_of s.rows a) ≡ b state
+  means_alone m = m.value seen_alone

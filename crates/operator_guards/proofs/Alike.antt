@@ -8,7 +8,7 @@ use lib.ListN.{length, get_or}
 use borrow.Author.Tests.{lt-ltb, le-ltb, ne_eqb}
 use Rattle.task.specs.Table.{Operator, row_at, operator_at}
 use Rattle.task.specs.Rules.{no_operator}
-use Rattle.task.proofs.Bounded.{length-upto, getD-upto}
+use Rattle.task.proofs.Bounded.{length_upto, getD_upto}
 use Rattle.normal_form.specs.Builder.{Build, give, bind, each, start}
 use Rattle.normal_form.specs.Copy.{copy, itself}
 use Rattle.formula_builder.specs.declared.Frame.{Frame}
@@ -19,7 +19,7 @@ use Rattle.finite_domain.specs.Tree.{finite_formula_of, finite_effect_of}
 use Rattle.finite_domain.specs.Run.{finite_operator_of, finite_effect_of_operator}
 use Rattle.translation.specs.Flags.{first_flag, flag, flag_count, flagged_formula, flagged_effect}
 use Rattle.translation.specs.Pairs.{through, copies, effconds, unless_never, pair_of, pairs_of, pairs, guarded_operator, Guards, guards}
-use Rattle.translation.proofs.FlaggedRows.{length-flagged-formulas, length-flagged-effects, flagged-formula-tree, flagged-effect-tree}
+use Rattle.translation.proofs.FlaggedRows.{length_flagged_formulas, length_flagged_effects, flagged_formula_tree, flagged_effect_tree}
 use Rattle.operator_guards.specs.declared.Counts.{Counts}
 use Rattle.operator_guards.specs.Inner.Pairing.{passing, with_flag, above, between, own_pairs, pairs_by}
 use Rattle.operator_guards.specs.Inner.Copying.{copies_of}
@@ -91,9 +91,9 @@ module _ (counts firsts cs : List ℕ) (right : (a : ℕ) → a ≤ length count
       two : (k : ℕ) → get_or firsts a 0 ≡ first_flag counts a → get_or firsts a 0 + d + 1 + k ≡ first_flag counts a + (d + 1 + k)
       two k e = omega (arith, e)
 
-  one-variable : (a p : ℕ) → a < length counts → pairs_of counts cs a p ≡ own_pairs firsts cs a p
+  one_variable : (a p : ℕ) → a < length counts → pairs_of counts cs a p ≡ own_pairs firsts cs a p
   unfolding pairs_of own_pairs between passing first_flag
-  one-variable a p h =
+  one_variable a p h =
       let n = get_or counts a 0 in
       let from = get_or firsts a 0 in
       let end = get_or firsts (a + 1) 0 in
@@ -104,14 +104,14 @@ module _ (counts firsts cs : List ℕ) (right : (a : ℕ) → a ≤ length count
       (λ d q l. one_value a d q h l)
       ∙ ap (λ (m : ℕ). through m (λ d q. above cs end (from + d) q) p) (sym many)
 
-  pub pairs-same : (p : ℕ) → pairs counts cs p ≡ pairs_by firsts (length counts) cs p
+  pub pairs_same : (p : ℕ) → pairs counts cs p ≡ pairs_by firsts (length counts) cs p
   unfolding pairs pairs_by passing
-  pairs-same p =
+  pairs_same p =
       let all : length counts - 0 ≡ length counts = omega arith in
       through_same (length counts) (λ a q. pairs_of counts cs a q) (λ a q. own_pairs firsts cs (0 + a) q) p
       (λ a q h.
       let e : 0 + a ≡ a = omega arith in
-      one-variable a q h ∙ ap (λ (k : ℕ). own_pairs firsts cs k q) (sym e))
+      one_variable a q h ∙ ap (λ (k : ℕ). own_pairs firsts cs k q) (sym e))
       ∙ ap (λ (m : ℕ). through m (λ a q. own_pairs firsts cs (0 + a) q) p) (sym all)
 
 -- Where formulas are taken as they stand.
@@ -122,65 +122,65 @@ becoming_itself frame e = rw (ne_eqb frame.copied 0 (λ z. omega (arith, z, e)))
 module _ {t : FiniteTask} {c : Counts} {formulas effects operators firsts : List ℕ} (s : Sourced t c formulas effects operators firsts) where
   pub formula_count : c.frame.formulas ≡ length t.formulas
   formula_count =
-      sym (length-upto c.frame.formulas (row_at formulas)) ∙ ap length s.formula_rows ∙ length-flagged-formulas t
+      sym (length_upto c.frame.formulas (row_at formulas)) ∙ ap length s.formula_rows ∙ length_flagged_formulas t
 
   pub effect_count : c.frame.effects ≡ length t.effects
   effect_count =
-      sym (length-upto c.frame.effects (row_at effects)) ∙ ap length s.effect_rows ∙ length-flagged-effects t
+      sym (length_upto c.frame.effects (row_at effects)) ∙ ap length s.effect_rows ∙ length_flagged_effects t
 
   pub operator_count : c.operators ≡ length t.operators
-  operator_count = sym (length-upto c.operators (operator_at operators)) ∙ ap length s.operator_rows
+  operator_count = sym (length_upto c.operators (operator_at operators)) ∙ ap length s.operator_rows
 
-  pub its-operator : (o : ℕ) → o < c.operators → finite_operator_of t o ≡ operator_at operators o
+  pub its_operator : (o : ℕ) → o < c.operators → finite_operator_of t o ≡ operator_at operators o
   unfolding finite_operator_of
-  its-operator o h =
-      ap (λ (l : List Operator). get_or l o no_operator) (sym s.operator_rows) ∙ getD-upto c.operators (operator_at operators) o no_operator h
+  its_operator o h =
+      ap (λ (l : List Operator). get_or l o no_operator) (sym s.operator_rows) ∙ getD_upto c.operators (operator_at operators) o no_operator h
 
-  pub its-formula : (i : ℕ) → i < c.frame.formulas → tree c.frame formulas i ≡ flagged_formula t.counts (finite_formula_of t.formulas i)
+  pub its_formula : (i : ℕ) → i < c.frame.formulas → tree c.frame formulas i ≡ flagged_formula t.counts (finite_formula_of t.formulas i)
   unfolding tree source_rows
-  its-formula i h = rw s.formula_rows (flagged-formula-tree t s.rules i (omega (arith, h, formula_count)))
+  its_formula i h = rw s.formula_rows (flagged_formula_tree t s.rules i (omega (arith, h, formula_count)))
 
-  pub its-effect :
+  pub its_effect :
       (e : ℕ)
       → e < c.frame.effects
       → effect_tree c.frame formulas effects e ≡ flagged_effect t.counts (finite_effect_of t.formulas t.effects e)
   unfolding effect_tree source_rows effect_rows
-  its-effect e h = rw (s.formula_rows, s.effect_rows) (flagged-effect-tree t s.rules e (omega (arith, h, effect_count)))
+  its_effect e h = rw (s.formula_rows, s.effect_rows) (flagged_effect_tree t s.rules e (omega (arith, h, effect_count)))
 
-  copies-same : copies t ≡ copies_of c.frame formulas c.frame.formulas
+  copies_same : copies t ≡ copies_of c.frame formulas c.frame.formulas
   unfolding copies copies_of
-  copies-same =
+  copies_same =
       ap (λ (n : ℕ). each n (λ i. copy (flagged_formula t.counts (finite_formula_of t.formulas i)))) (sym formula_count)
       ∙ each_same c.frame.formulas (λ i. copy (flagged_formula t.counts (finite_formula_of t.formulas i)))
-      (λ i. copy (tree c.frame formulas i)) (λ i h. ap copy (sym (its-formula i h)))
+      (λ i. copy (tree c.frame formulas i)) (λ i h. ap copy (sym (its_formula i h)))
 
-  conditions-same :
+  conditions_same :
       (e : ℕ)
       → e < c.frame.effects
       → effconds (flag_count t.counts) (flagged_effect t.counts (finite_effect_of t.formulas t.effects e))
       ≡ conditions_of c.frame formulas effects e c.frame.variables
   unfolding effconds conditions_of condition_at
-  conditions-same e h =
-      rw (becoming_itself c.frame s.copied, its-effect e h, s.flags) refl
+  conditions_same e h =
+      rw (becoming_itself c.frame s.copied, its_effect e h, s.flags) refl
 
-  operator-same :
+  operator_same :
       (at : List ℕ) (o : ℕ)
       → o < c.operators
       → (operator_at operators o).effect < c.frame.effects
       → guarded_operator t at o ≡ operator_guarded c formulas effects operators firsts at o
   unfolding guarded_operator operator_guarded guarded_by finite_effect_of_operator
-  operator-same at o h low =
+  operator_same at o h low =
       let p = get_or at (operator_at operators o).precondition 0 in
       ap
       (λ (x : Operator).
       bind (effconds (flag_count t.counts) (flagged_effect t.counts (finite_effect_of t.formulas t.effects x.effect)))
-      (λ cs. pairs t.counts cs (get_or at x.precondition 0))) (its-operator o h)
-      ∙ (λ i. bind (conditions-same (operator_at operators o).effect low i) (λ cs. same-pairs cs p i))
+      (λ cs. pairs t.counts cs (get_or at x.precondition 0))) (its_operator o h)
+      ∙ (λ i. bind (conditions_same (operator_at operators o).effect low i) (λ cs. same-pairs cs p i))
     where
       same-pairs : (cs : List ℕ) (p : ℕ) → pairs t.counts cs p ≡ pairs_by firsts c.variables cs p
-      same-pairs cs p = rw s.variables (pairs-same t.counts firsts cs s.firsts_at p)
+      same-pairs cs p = rw s.variables (pairs_same t.counts firsts cs s.firsts_at p)
 
-  pub guards-same :
+  pub guards_same :
       ((o : ℕ) → o < c.operators → (operator_at operators o).effect < c.frame.effects)
       → guards t start
       ≡ record {
@@ -192,14 +192,14 @@ module _ {t : FiniteTask} {c : Counts} {formulas effects operators firsts : List
         st = (guarded_start c formulas effects operators firsts c.operators).st;
       }
   unfolding guards copied_start guarded_start bind give
-  guards-same low =
+  guards_same low =
       let at = copies_of c.frame formulas c.frame.formulas start in
       ap
       (λ (m : Build (List ℕ)).
       bind m
       (λ at. bind (each (length t.operators) (guarded_operator t at)) (λ ps. give {A = Guards} (record { formulas_at = at; preconditions = ps }))) start)
-      copies-same
+      copies_same
       ∙ ap (λ (m : Build (List ℕ)). bind m (λ ps. give {A = Guards} (record { formulas_at = at.value; preconditions = ps })) at.st)
       (ap (λ (n : ℕ). each n (guarded_operator t at.value)) (sym operator_count)
       ∙ each_same c.operators (guarded_operator t at.value) (operator_guarded c formulas effects operators firsts at.value)
-      (λ o h. operator-same at.value o h (low o h)))
+      (λ o h. operator_same at.value o h (low o h)))

@@ -13,7 +13,7 @@ use Rattle.normal_form.specs.Copy.{copy, itself}
 use Rattle.normal_form.specs.Growth.{Grows, Steady}
 use Rattle.normal_form.proofs.Growth.{grows_refl, steady_bind, steady_each}
 use Rattle.normal_form.proofs.Steady.{steady_copy}
-use Rattle.normal_form.proofs.Adds.{AddsNothing, nothing-first, nothing_each}
+use Rattle.normal_form.proofs.Adds.{AddsNothing, nothing_first, nothing_each}
 use Rattle.formula_builder.specs.declared.Frame.{Frame}
 use Rattle.formula_builder.specs.Inner.Held.{Store, store, held, sized}
 use Rattle.formula_builder.proofs.Stored.{one_more}
@@ -27,7 +27,7 @@ use Rattle.operator_guards.specs.declared.Counts.{Counts}
 use Rattle.operator_guards.specs.Inner.Copying.{copies_of}
 use Rattle.operator_guards.specs.Inner.Guarding.{set_of, conditions_of, guarded_by, GuardsOperator, Reaches}
 use Rattle.operator_guards.specs.Inner.Whole.{copied_start, operator_guarded, guarded_start, GuardedTo, Misfits, GuardsRange, GuardedRange, TakesBatch, TookBatch, GuardsAll}
-use Rattle.operator_guards.proofs.Stepping.{steady-pairs-by}
+use Rattle.operator_guards.proofs.Stepping.{steady_pairs_by}
 use Rattle.operator_guards.proofs.Eaching.{each_grows, each_value}
 
 pub steady_conditions : (frame : Frame) (formulas effects : List ℕ) (e n : ℕ) → Steady (conditions_of frame formulas effects e n)
@@ -37,7 +37,7 @@ steady_conditions frame formulas effects e n = steady_each n (λ x. steady_condi
 pub steady_guarded_by : (frame : Frame) (formulas effects firsts : List ℕ) (v e p : ℕ) → Steady (guarded_by frame formulas effects firsts v e p)
 unfolding guarded_by
 steady_guarded_by frame formulas effects firsts v e p =
-    steady_bind (steady_conditions frame formulas effects e frame.variables) (λ found. steady-pairs-by found firsts v p)
+    steady_bind (steady_conditions frame formulas effects e frame.variables) (λ found. steady_pairs_by found firsts v p)
 
 module _ (c : Counts) (formulas effects operators firsts : List ℕ) where
   steady_operator : (at : List ℕ) (o : ℕ) → Steady (operator_guarded c formulas effects operators firsts at o)
@@ -47,19 +47,19 @@ module _ (c : Counts) (formulas effects operators firsts : List ℕ) where
       (get_or at (operator_at operators o).precondition 0)
 
   -- more operators only add
-  pub operators-grow :
+  pub operators_grow :
       (k n : ℕ)
       → k ≤ n
       → Grows (guarded_start c formulas effects operators firsts k).st (guarded_start c formulas effects operators firsts n).st
   unfolding guarded_start
-  operators-grow k n h =
+  operators_grow k n h =
       let copied = copied_start c.frame formulas in
       each_grows (steady_operator copied.value) copied.st k n h
 
   -- and so do those before any
-  pub formulas-grow : (n : ℕ) → Grows (copied_start c.frame formulas).st (guarded_start c formulas effects operators firsts n).st
+  pub formulas_grow : (n : ℕ) → Grows (copied_start c.frame formulas).st (guarded_start c formulas effects operators firsts n).st
   unfolding guarded_start
-  formulas-grow n =
+  formulas_grow n =
       let copied = copied_start c.frame formulas in
       (steady_each n (steady_operator copied.value)).grow copied.st
 
@@ -69,20 +69,20 @@ module _ (c : Counts) (formulas effects operators firsts : List ℕ) where
       → e < c.frame.effects
       → condition_at c.frame formulas effects (record { variable = v; clear = true; negated = false }) e ≡ give 0)
       (n : ℕ) (s : St) (g : Grows (guarded_start c formulas effects operators firsts n).st s) where
-    set-again :
+    set_again :
         (k v : ℕ)
         → k < n
         → v < c.frame.variables
         → AddsNothing (condition_at c.frame formulas effects (set_of v) (operator_at operators k).effect) s
     unfolding guarded_start operator_guarded guarded_by conditions_of
-    set-again k v h low =
+    set_again k v h low =
         let copied = copied_start c.frame formulas in
         let e = (operator_at operators k).effect in
         let p = get_or copied.value (operator_at operators k).precondition 0 in
         let whole : AddsNothing (guarded_by c.frame formulas effects firsts c.variables e p) s =
         nothing_each n (steady_operator copied.value) copied.st h g in
         let all : AddsNothing (conditions_of c.frame formulas effects e c.frame.variables) s =
-        nothing-first (steady_conditions c.frame formulas effects e c.frame.variables) (λ found. steady-pairs-by found firsts c.variables p) whole in
+        nothing_first (steady_conditions c.frame formulas effects e c.frame.variables) (λ found. steady_pairs_by found firsts c.variables p) whole in
         nothing_each c.frame.variables (λ x. steady_condition_at c.frame formulas effects (set_of x) e) s low (rw all (grows_refl s))
 
     clear_again :
@@ -92,10 +92,10 @@ module _ (c : Counts) (formulas effects operators firsts : List ℕ) where
     unfolding give
     clear_again v e h = ap (λ (m : Build ℕ). (m s).st) (sets_only v e h)
 
-    pub covered-guarded :
+    pub covered_guarded :
         ((k : ℕ) → k < n → (operator_at operators k).effect < c.frame.effects)
         → AllCovered c.frame formulas effects operators n s
-    covered-guarded roots =
+    covered_guarded roots =
         record {
           covered = λ k h.
               record { effect = roots k h; again = λ t p v. go t.variable t.clear t.negated p k h v };
@@ -109,7 +109,7 @@ module _ (c : Counts) (formulas effects operators firsts : List ℕ) where
             → v < c.frame.variables
             → AddsNothing
             (condition_at c.frame formulas effects (record { variable = v; clear = clear; negated = negated }) (operator_at operators k).effect) s
-        go v false negated p k h low = rw p (set-again k v h low)
+        go v false negated p k h low = rw p (set_again k v h low)
         go v true negated p k h low = rw p (clear_again v (operator_at operators k).effect (roots k h))
 
 -- The row of a formula, as the memo has it, is the one that copying gave.
@@ -161,28 +161,28 @@ module _ {c : Counts} {formulas effects operators firsts : List ℕ} {from end :
     here : Build ℕ
     here = guarded_by c.frame formulas effects firsts c.variables (operator_at operators o).effect word
 
-    its-row : word ≡ get_or (copied_start c.frame formulas).value (operator_at operators o).precondition 0
-    its-row =
+    its_row : word ≡ get_or (copied_start c.frame formulas).value (operator_at operators o).precondition 0
+    its_row =
         omega (
           arith,
           formula_row c.frame formulas scratch' (held (sized n' 0) (store table' originals')) (operator_at operators o).precondition
               b.rules.copied (b.rules.precondition o low) g.stands.memo
-              (rw g.state at (formulas-grow c formulas effects operators firsts o)),
+              (rw g.state at (formulas_grow c formulas effects operators firsts o)),
         )
 
-    next-state :
+    next_state :
         (guarded_start c formulas effects operators firsts (o + 1)).st ≡ (here (held (sized n' 0) (store table' originals'))).st
     unfolding guarded_start operator_guarded each bind give here
-    next-state =
-        rw (add-one o, its-row)
+    next_state =
+        rw (add-one o, its_row)
         (ap (λ (s : St). (operator_guarded c formulas effects operators firsts (copied_start c.frame formulas).value o s).st) g.state)
 
-    next-value :
+    next_value :
         (guarded_start c formulas effects operators firsts (o + 1)).value
         ≡ take o kept ++ ((here (held (sized n' 0) (store table' originals'))).value ∷ [])
     unfolding guarded_start operator_guarded each bind give here
-    next-value =
-        rw (add-one o, its-row)
+    next_value =
+        rw (add-one o, its_row)
         (ap₂
         (λ (l : List ℕ) (s : St). l ++ ((operator_guarded c formulas effects operators firsts (copied_start c.frame formulas).value o s).value ∷ []))
         g.value g.state)
@@ -200,8 +200,8 @@ module _ {c : Counts} {formulas effects operators firsts : List ℕ} {from end :
           let d = reaches.done f in
           record {
             stands = d.stands;
-            state = next-state ∙ d.state;
-            value = next-value ∙ ap (λ (v : ℕ). take o kept ++ (v ∷ [])) d.value ∙ sym (one_more kept o k room);
+            state = next_state ∙ d.state;
+            value = next_value ∙ ap (λ (v : ℕ). take o kept ++ (v ∷ [])) d.value ∙ sym (one_more kept o k room);
           }
 
       pub guarded-over : k ≡ 65535 → Misfits c formulas effects operators firsts
@@ -209,27 +209,27 @@ module _ {c : Counts} {formulas effects operators firsts : List ℕ} {from end :
           record {
             over = λ w.
                 reaches.over q
-                (rw next-state at (within_before (operators-grow c formulas effects operators firsts (o + 1) c.operators (omega arith)) w));
+                (rw next_state at (within_before (operators_grow c formulas effects operators firsts (o + 1) c.operators (omega arith)) w));
           }
 
 -- the ways out
 module _ {c : Counts} {formulas effects operators firsts : List ℕ} {end : ℕ} {notes : List ℕ} {n : ℕ} {s : Store} {scratch kept : List ℕ} where
-  pub range-over : Misfits c formulas effects operators firsts → GuardedRange c formulas effects operators firsts end notes n s scratch kept false
-  range-over m = record { done = λ f. absurd (true≢false (sym f)); over = λ _. m }
+  pub range_over : Misfits c formulas effects operators firsts → GuardedRange c formulas effects operators firsts end notes n s scratch kept false
+  range_over m = record { done = λ f. absurd (true≢false (sym f)); over = λ _. m }
 
-  pub range-guarded :
+  pub range_guarded :
       (o : ℕ)
       → o ≡ end
       → GuardedTo c formulas effects operators firsts notes n s scratch kept o
       → GuardedRange c formulas effects operators firsts end notes n s scratch kept true
-  range-guarded o e g = record { done = λ _. rw e at g; over = λ f. absurd (true≢false f) }
+  range_guarded o e g = record { done = λ _. rw e at g; over = λ f. absurd (true≢false f) }
 
 -- A batch.
 module _ {c : Counts} {formulas effects operators first firsts : List ℕ} {from : ℕ} {found notes : List ℕ} {n : ℕ} {table originals scratch preconditions : List ℕ}
     (b : TakesBatch c formulas effects operators first firsts from found notes n (store table originals) scratch preconditions) where
-  pub batch-asks :
+  pub batch_asks :
       NextBatch c.frame formulas effects operators from c.operators first notes (sized n 0) (store table originals) scratch
-  batch-asks =
+  batch_asks =
       let stands = b.so_far.stands in
       let rules = stands.effect_source in
       record {
@@ -252,7 +252,7 @@ module _ {c : Counts} {formulas effects operators first firsts : List ℕ} {from
             };
         comes = b.first_kept.comes;
         covered =
-            covered-guarded c formulas effects operators firsts b.rules.sets_only from (held (sized n 0) (store table originals))
+            covered_guarded c formulas effects operators firsts b.rules.sets_only from (held (sized n 0) (store table originals))
             (rw b.so_far.state (grows_refl _)) (λ k h. b.rules.roots.effect k (omega (arith, h, b.next)));
         stands = stands;
         blank = b.blank;
@@ -261,8 +261,8 @@ module _ {c : Counts} {formulas effects operators first firsts : List ℕ} {from
   -- it has begun
   module _ {notes' scratch' : List ℕ} {s' : Store} {end : ℕ}
       (x : BegunBatch c.frame formulas effects from c.operators notes' (sized n 0) (store table originals) s' scratch' end) where
-    pub range-asks : GuardsRange c formulas effects operators firsts from end found notes' n s' scratch' preconditions
-    range-asks =
+    pub range_asks : GuardsRange c formulas effects operators firsts from end found notes' n s' scratch' preconditions
+    range_asks =
         record {
           rules = b.rules;
           more = omega (arith, x.more);
@@ -293,7 +293,7 @@ module _ {c : Counts} {formulas effects operators first firsts : List ℕ} {from
 -- All operators.
 module _ {c : Counts} {formulas effects operators first firsts found notes : List ℕ} {n : ℕ} {s : Store} {scratch preconditions : List ℕ}
     (a : GuardsAll c formulas effects operators first firsts found notes n s scratch preconditions) where
-  pub next-batch-asks :
+  pub next_batch_asks :
       {o : ℕ} {found' notes' : List ℕ} {n' : ℕ} {s' : Store} {scratch' kept : List ℕ}
       → o < c.operators
       → length found' ≡ length found
@@ -302,7 +302,7 @@ module _ {c : Counts} {formulas effects operators first firsts found notes : Lis
       → (o ≡ 0 → (j : ℕ) → get_or notes' j 0 ≡ get_or notes j 0)
       → GuardedTo c formulas effects operators firsts notes' n' s' scratch' kept o
       → TakesBatch c formulas effects operators first firsts o found' notes' n' s' scratch' kept
-  next-batch-asks low broad long wide same g =
+  next_batch_asks low broad long wide same g =
       record {
         rules = a.rules;
         first_kept = a.first_kept;

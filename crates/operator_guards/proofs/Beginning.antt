@@ -25,17 +25,17 @@ copies_grow frame formulas = rw (none frame formulas) at (more_copies frame form
 
 module _ {frame : Frame} {formulas table scratch : List ℕ} (b : Begins frame formulas table scratch) where
   -- there is no room for false and true
-  pub begin-none : {n : ℕ} {table' scratch' : List ℕ} → frame.rows < 2 → Begun frame formulas scratch n table' scratch' false
+  pub begin_none : {n : ℕ} {table' scratch' : List ℕ} → frame.rows < 2 → Begun frame formulas scratch n table' scratch' false
   unfolding start
-  begin-none h =
+  begin_none h =
       record {
         done = λ f. absurd (true≢false (sym f));
         over = λ _ w. omega (arith, h, (within_before (copies_grow frame formulas) w).rows);
       }
 
   module _ (two : 2 ≤ frame.rows) where
-    pub begin-empty : Empty frame.rows table
-    begin-empty =
+    pub begin_empty : Empty frame.rows table
+    begin_empty =
         record { two = two; limit = b.fresh.limit; room = omega (arith, b.fresh.room); blank = b.fresh.blank }
 
     module _ {table' : List ℕ} (f : FirstTwo frame.rows table table') where

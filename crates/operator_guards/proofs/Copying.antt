@@ -13,15 +13,15 @@ use Rattle.task.specs.Table.{Row, row_at, formula_kind}
 use Rattle.task.specs.Rules.{no_row, FormulaRule}
 use Rattle.task.specs.Semantics.{Formula}
 use Rattle.task.specs.Tree.{formula_node}
-use Rattle.task.proofs.Bounded.{length-upto, getD-upto}
-use Rattle.task.proofs.Trees.{formula-unfolds}
+use Rattle.task.proofs.Bounded.{length_upto, getD_upto}
+use Rattle.task.proofs.Trees.{formula_unfolds}
 use Rattle.normal_form.specs.Builder.{St, Got, give, bind, each, row, variable_row, Polarity, plain, negated}
 use Rattle.normal_form.specs.Copy.{over_two, copy}
 use Rattle.normal_form.specs.Growth.{Grows}
 use Rattle.normal_form.proofs.Steady.{steady_copy}
 use Rattle.formula_builder.specs.declared.Frame.{Frame}
 use Rattle.formula_builder.specs.Inner.Held.{store, held, sized}
-use Rattle.formula_builder.proofs.Steps.{builds-from, within_before}
+use Rattle.formula_builder.proofs.Steps.{builds_from, within_before}
 use Rattle.operator_guards.proofs.Eaching.{each_grows}
 use Rattle.images.specs.Inner.Images.{source_rows, tree, memo_place, Known, Source}
 use Rattle.images.proofs.Memos.{known_grows, done_grows, done_known, memo_copied}
@@ -39,22 +39,22 @@ more_copies frame formulas k n h s = each_grows (λ i. steady_copy (tree frame f
 
 -- A row by its kind.
 module _ (w : Row) (a b : ℕ) where
-  pub copied-constant : w.kind < 2 → copied_row w a b ≡ give w.kind
+  pub copied_constant : w.kind < 2 → copied_row w a b ≡ give w.kind
   unfolding copied_row
-  copied-constant h = rw (lt-ltb w.kind 2 h) refl
+  copied_constant h = rw (lt-ltb w.kind 2 h) refl
 
-  pub copied-variable : w.kind ≡ 2 → copied_row w a b ≡ row (record { kind = 2; a = w.a; b = 0 })
+  pub copied_variable : w.kind ≡ 2 → copied_row w a b ≡ row (record { kind = 2; a = w.a; b = 0 })
   unfolding copied_row
-  copied-variable e = rw e refl
+  copied_variable e = rw e refl
 
-  pub copied-not : w.kind ≡ 3 → copied_row w a b ≡ row (record { kind = 3; a = a; b = 0 })
+  pub copied_not : w.kind ≡ 3 → copied_row w a b ≡ row (record { kind = 3; a = a; b = 0 })
   unfolding copied_row
-  copied-not e = rw e refl
+  copied_not e = rw e refl
 
-  pub copied-two :
+  pub copied_two :
       2 ≤ w.kind → (w.kind ≡ 2 → ⊥) → (w.kind ≡ 3 → ⊥) → copied_row w a b ≡ row (record { kind = w.kind; a = a; b = b })
   unfolding copied_row
-  copied-two l h g = rw (le-ltb w.kind 2 l, ne_eqb w.kind 2 h, ne_eqb w.kind 3 g) refl
+  copied_two l h g = rw (le-ltb w.kind 2 l, ne_eqb w.kind 2 h, ne_eqb w.kind 3 g) refl
 
 abbrev words : (k a b : ℕ) → Row
 words k a b = record { kind = k; a = a; b = b }
@@ -89,68 +89,68 @@ right_low v i (suc (suc (suc (suc (suc (suc (suc (suc k)))))))) a b r h = absurd
 
 -- A formula of a kind over two whose copies are rows x and y, in a state that has them.
 module _ (v i a b x y : ℕ) (f g : Formula) (s : St) where
-  node-copied :
+  node_copied :
       (k : ℕ)
       → FormulaRule v i (formula_kind k) a b
       → (3 ≤ k → copy f s ≡ got x s)
       → (4 ≤ k → copy g s ≡ got y s)
       → copy (formula_node (formula_kind k) a f g) s ≡ copied_row (words k a b) x y s
   unfolding copy formula_node formula_kind copied_row over_two variable_row bind give
-  node-copied zero r p q = refl
-  node-copied (suc zero) r p q = refl
-  node-copied (suc (suc zero)) r p q = refl
-  node-copied (suc (suc (suc zero))) r p q = rw (p (omega arith)) refl
-  node-copied (suc (suc (suc (suc zero)))) r p q = rw (p (omega arith), q (omega arith)) refl
-  node-copied (suc (suc (suc (suc (suc zero))))) r p q = rw (p (omega arith), q (omega arith)) refl
-  node-copied (suc (suc (suc (suc (suc (suc zero)))))) r p q = rw (p (omega arith), q (omega arith)) refl
-  node-copied (suc (suc (suc (suc (suc (suc (suc zero))))))) r p q = rw (p (omega arith), q (omega arith)) refl
-  node-copied (suc (suc (suc (suc (suc (suc (suc (suc k)))))))) r p q = absurd r
+  node_copied zero r p q = refl
+  node_copied (suc zero) r p q = refl
+  node_copied (suc (suc zero)) r p q = refl
+  node_copied (suc (suc (suc zero))) r p q = rw (p (omega arith)) refl
+  node_copied (suc (suc (suc (suc zero)))) r p q = rw (p (omega arith), q (omega arith)) refl
+  node_copied (suc (suc (suc (suc (suc zero))))) r p q = rw (p (omega arith), q (omega arith)) refl
+  node_copied (suc (suc (suc (suc (suc (suc zero)))))) r p q = rw (p (omega arith), q (omega arith)) refl
+  node_copied (suc (suc (suc (suc (suc (suc (suc zero))))))) r p q = rw (p (omega arith), q (omega arith)) refl
+  node_copied (suc (suc (suc (suc (suc (suc (suc (suc k)))))))) r p q = absurd r
 
 -- Row i of the source.
 module _ {frame : Frame} {formulas scratch : List ℕ} (source : Source frame formulas scratch) (i : ℕ) (h : i < frame.formulas) where
-  its-row : get_or (source_rows frame formulas) i no_row ≡ row_at formulas i
+  its_row : get_or (source_rows frame formulas) i no_row ≡ row_at formulas i
   unfolding source_rows
-  its-row = getD-upto frame.formulas (row_at formulas) i no_row h
+  its_row = getD_upto frame.formulas (row_at formulas) i no_row h
 
   within : i < length (source_rows frame formulas)
   unfolding source_rows
-  within = omega (arith, length-upto frame.formulas (row_at formulas))
+  within = omega (arith, length_upto frame.formulas (row_at formulas))
 
   rule : let w = row_at formulas i in FormulaRule frame.variables i (formula_kind w.kind) w.a w.b
-  rule = rw its-row at (source.down.row i within)
+  rule = rw its_row at (source.down.row i within)
 
   pub left_below : 3 ≤ (row_at formulas i).kind → (row_at formulas i).a < i
   left_below l = left_low frame.variables i (row_at formulas i).kind (row_at formulas i).a (row_at formulas i).b rule l
 
-  pub right-below : 4 ≤ (row_at formulas i).kind → (row_at formulas i).b < i
-  right-below l = right_low frame.variables i (row_at formulas i).kind (row_at formulas i).a (row_at formulas i).b rule l
+  pub right_below : 4 ≤ (row_at formulas i).kind → (row_at formulas i).b < i
+  right_below l = right_low frame.variables i (row_at formulas i).kind (row_at formulas i).a (row_at formulas i).b rule l
 
-  tree-node :
+  tree_node :
       let w = row_at formulas i in
       tree frame formulas i ≡ formula_node (formula_kind w.kind) w.a (tree frame formulas w.a) (tree frame formulas w.b)
   unfolding tree
-  tree-node = rw its-row at (formula-unfolds frame.variables (source_rows frame formulas) source.down i within)
+  tree_node = rw its_row at (formula_unfolds frame.variables (source_rows frame formulas) source.down i within)
 
-  pub copy-over :
+  pub copy_over :
       (s : St) (x y : ℕ)
       → let w = row_at formulas i in
       (3 ≤ w.kind → Known (copy (tree frame formulas w.a)) s x)
       → (4 ≤ w.kind → Known (copy (tree frame formulas w.b)) s y)
       → copy (tree frame formulas i) s ≡ copied_row w x y s
-  copy-over s x y p q =
+  copy_over s x y p q =
       let w = row_at formulas i in
-      ap (λ (f : Formula). copy f s) tree-node
-      ∙ node-copied frame.variables i w.a w.b x y (tree frame formulas w.a) (tree frame formulas w.b) s w.kind rule
+      ap (λ (f : Formula). copy f s) tree_node
+      ∙ node_copied frame.variables i w.a w.b x y (tree frame formulas w.a) (tree frame formulas w.b) s w.kind rule
       (λ l. (p l).again) (λ l. (q l).again)
 
 -- what is copied is held, and known
 module _ {frame : Frame} {formulas scratch : List ℕ} {s : St} {i : ℕ} (room : 2 * frame.formulas ≤ length scratch) (h : i < frame.formulas)
     (c : Copied frame formulas scratch s i) where
-  pub copied-held : Held scratch i
-  copied-held = record { within = omega (arith, room, h); some = omega (arith, c.words plain) }
+  pub copied_held : Held scratch i
+  copied_held = record { within = omega (arith, room, h); some = omega (arith, c.words plain) }
 
-  pub copied-known : Known (copy (tree frame formulas i)) s (get_or scratch i 0 - 1)
-  copied-known =
+  pub copied_known : Known (copy (tree frame formulas i)) s (get_or scratch i 0 - 1)
+  copied_known =
       let same : get_or scratch i 0 - 1 ≡ c.at = omega (arith, c.words plain) in
       rw same c.known
 
@@ -169,17 +169,17 @@ module _ {frame : Frame} {formulas : List ℕ} {n : ℕ} {table scratch : List �
     operand : (j : ℕ) → j < i → Copied frame formulas scratch' (held (sized n' 0) (store table' [])) j
     operand j l = c.each j l
 
-    pub copies-row : (w : Row) → w ≡ row_at formulas i → CopiesRow frame n' table' scratch' w
-    copies-row w e =
+    pub copies_row : (w : Row) → w ≡ row_at formulas i → CopiesRow frame n' table' scratch' w
+    copies_row w e =
         rw e
         (record {
           ready = c.ready;
           left = λ l.
               let low = left_below a.source i h l in
-              copied-held room (omega (arith, low, h)) (operand (row_at formulas i).a low);
+              copied_held room (omega (arith, low, h)) (operand (row_at formulas i).a low);
           right = λ l.
-              let low = right-below a.source i h l in
-              copied-held room (omega (arith, low, h)) (operand (row_at formulas i).b low);
+              let low = right_below a.source i h l in
+              copied_held room (omega (arith, low, h)) (operand (row_at formulas i).b low);
         })
 
     -- the next one, as the code builds it
@@ -188,14 +188,14 @@ module _ {frame : Frame} {formulas : List ℕ} {n : ℕ} {table scratch : List �
       its-copy : TableBuilds (copy (tree frame formulas i)) frame n' table' table'' n'' k
       its-copy =
           let s = held (sized n' 0) (store table' []) in
-          builds-from
-          (copy-over a.source i h s (get_or scratch' w.a 0 - 1) (get_or scratch' w.b 0 - 1)
+          builds_from
+          (copy_over a.source i h s (get_or scratch' w.a 0 - 1) (get_or scratch' w.b 0 - 1)
           (λ l.
           let low = left_below a.source i h l in
-          rw e (copied-known room (omega (arith, low, h)) (operand (row_at formulas i).a low)))
+          rw e (copied_known room (omega (arith, low, h)) (operand (row_at formulas i).a low)))
           (λ l.
-          let low = right-below a.source i h l in
-          rw e (copied-known room (omega (arith, low, h)) (operand (row_at formulas i).b low)))
+          let low = right_below a.source i h l in
+          rw e (copied_known room (omega (arith, low, h)) (operand (row_at formulas i).b low)))
           ∙ ap (λ (r : Row). copied_row r (get_or scratch' w.a 0 - 1) (get_or scratch' w.b 0 - 1) s) (sym e))
           (omega arith) b
 

@@ -73,8 +73,8 @@ module _ {frame : Frame} {formulas effects notes : List ℕ} {n : ℕ} {s : Stor
   -- The conditions of the first x flags are found.
   module _ {notes' : List ℕ} {n' : ℕ} {s' : Store} {scratch' found' : List ℕ} {x w : ℕ} (none : w ≡ 0)
       (c : FoundTo frame formulas effects notes' n s e n' s' scratch' found' x) (h : x < frame.variables) where
-    pub asks-flag : Asks frame formulas effects notes' (set_of x) (sized n' w) s' scratch' e
-    asks-flag =
+    pub asks_flag : Asks frame formulas effects notes' (set_of x) (sized n' w) s' scratch' e
+    asks_flag =
         let z = c.stands in
         rw none
         (record {

@@ -8,7 +8,7 @@ use lib.ListN.{length, get_or, take}
 use lib.Seq.{get_or-take}
 use borrow.Author.Tests.{eq-eqb, ne_eqb}
 use Rattle.task.specs.Table.{row_at, operator_at}
-use Rattle.task.proofs.Bounded.{length-upto}
+use Rattle.task.proofs.Bounded.{length_upto}
 use Rattle.normal_form.specs.Builder.{St, Got, Build, bind, plain}
 use Rattle.normal_form.specs.Growth.{Grows}
 use Rattle.formula_builder.specs.declared.Frame.{Frame}
@@ -21,7 +21,7 @@ use Rattle.translation.specs.Pairs.{through, unless_never}
 use Rattle.operator_guards.specs.Inner.Steps.{TableReady, TableBuilds}
 use Rattle.operator_guards.specs.Inner.Pairing.{passing, with_flag, above, between, own_pairs, pairs_by, PairsReady}
 use Rattle.operator_guards.specs.Inner.Guarding.{conditions_of, guarded_by, FindsConditions, FoundTo, FoundAll, GuardsOperator, Reaches}
-use Rattle.operator_guards.proofs.Stepping.{steady-pairs-by}
+use Rattle.operator_guards.proofs.Stepping.{steady_pairs_by}
 use Rattle.operator_guards.proofs.Finding.{stands_on}
 
 -- With no twins the originals do not matter, if they are all 0.
@@ -72,9 +72,9 @@ through_same (suc n) f g x same =
 -- Pairs depend on the words of the flags alone.
 module _ (firsts : List ℕ) (v p flags : ℕ) (f g : List ℕ) (same : (i : ℕ) → i < flags → get_or f i 0 ≡ get_or g i 0)
     (ends : (a : ℕ) → a ≤ v → get_or firsts a 0 ≤ flags) where
-  pub pairs-found : pairs_by firsts v f p ≡ pairs_by firsts v g p
+  pub pairs_found : pairs_by firsts v f p ≡ pairs_by firsts v g p
   unfolding pairs_by own_pairs between above passing
-  pairs-found =
+  pairs_found =
       through_same (v - 0) (λ a q. own_pairs firsts f (0 + a) q) (λ a q. own_pairs firsts g (0 + a) q) p (λ a q h. of-variable (0 + a) q (omega arith))
     where
       of_pair : (x y q : ℕ) → x < flags → y < flags → with_flag f x y q ≡ with_flag g x y q
@@ -95,18 +95,18 @@ module _ (firsts : List ℕ) (v p flags : ℕ) (f g : List ℕ) (same : (i : ℕ
 -- By the words of the frame the same is asked, and reached.
 module _ {frame words : Frame} {formulas effects notes operators : List ℕ} {o : ℕ} {firsts : List ℕ} {v : ℕ} {buffer : List ℕ} {n : ℕ} {s : Store} {scratch : List ℕ}
     (same : words ≡ frame) (a : GuardsOperator frame formulas effects notes operators o firsts v buffer n s scratch) where
-  pub asks-words : GuardsOperator words formulas effects notes operators o firsts v buffer n s scratch
-  asks-words = rw same a
+  pub asks_words : GuardsOperator words formulas effects notes operators o firsts v buffer n s scratch
+  asks_words = rw same a
 
   abbrev by_frame : Frame → Build ℕ
   by_frame f =
       guarded_by f formulas effects firsts v (operator_at operators o).effect (get_or scratch (operator_at operators o).precondition 0 - 1)
 
-  pub reaches-words :
+  pub reaches_words :
       {notes' : List ℕ} {n' : ℕ} {s' : Store} {scratch' : List ℕ} {k : ℕ}
       → Reaches (by_frame words) words formulas effects notes' n s n' s' scratch' k
       → Reaches (by_frame frame) frame formulas effects notes' n s n' s' scratch' k
-  reaches-words x = rw same at x
+  reaches_words x = rw same at x
 
 module _ {frame : Frame} {formulas effects notes operators : List ℕ} {o : ℕ} {firsts : List ℕ} {v : ℕ} {buffer : List ℕ} {n : ℕ} {table originals scratch : List ℕ}
     (a : GuardsOperator frame formulas effects notes operators o firsts v buffer n (store table originals) scratch) where
@@ -131,7 +131,7 @@ module _ {frame : Frame} {formulas effects notes operators : List ℕ} {o : ℕ}
         let r = get_or scratch p 0 - 1 in
         let here : get_or scratch p 0 ≡ r + 1 = omega (arith, word_some) in
         let known = a.stands.memo.known plain p r formula here in
-        rw (length-upto n (row_at table)) at known.below
+        rw (length_upto n (row_at table)) at known.below
 
   pub finds :
       (e : ℕ)
@@ -146,11 +146,11 @@ module _ {frame : Frame} {formulas effects notes operators : List ℕ} {o : ℕ}
       }
 
   -- The conditions are found.
-  module _ {e p : ℕ} (its-effect : e ≡ (operator_at operators o).effect) (its : p ≡ (operator_at operators o).precondition)
+  module _ {e p : ℕ} (its_effect : e ≡ (operator_at operators o).effect) (its : p ≡ (operator_at operators o).precondition)
       {notes' : List ℕ} {n' : ℕ} {table' originals' scratch' found : List ℕ}
       (c : FoundTo frame formulas effects notes' n (store table originals) e n' (store table' originals') scratch' found frame.variables) where
-    pub asks-pairs : frame.variables ≤ length found → PairsReady frame n' table' found firsts v (get_or scratch p 0 - 1)
-    asks-pairs room =
+    pub asks_pairs : frame.variables ≤ length found → PairsReady frame n' table' found firsts v (get_or scratch p 0 - 1)
+    asks_pairs room =
         record {
           flags =
               record {
@@ -174,10 +174,10 @@ module _ {frame : Frame} {formulas effects notes operators : List ℕ} {o : ℕ}
       whole : here (held (sized n 0) (store table originals)) ≡ pairs_by firsts v found (get_or scratch p 0 - 1) (held (sized n' 0) (store table' []))
       unfolding guarded_by bind
       whole =
-          rw (← its, ← its-effect)
+          rw (← its, ← its_effect)
           (ap₂ (λ (l : List ℕ) (t : St). pairs_by firsts v l (get_or scratch p 0 - 1) t) c.value c.state
           ∙ ap₂ (λ (m : Build ℕ) (t : St). m t)
-          (pairs-found firsts v (get_or scratch p 0 - 1) frame.variables (take frame.variables found) found
+          (pairs_found firsts v (get_or scratch p 0 - 1) frame.variables (take frame.variables found) found
           (λ i h. get_or-take frame.variables found i 0 h) a.firsts_kept.ends)
           (held_plain n' table' originals'))
 
@@ -188,7 +188,7 @@ module _ {frame : Frame} {formulas effects notes operators : List ℕ} {o : ℕ}
           record {
             done = λ f.
                 let d = b.done (ne_eqb k 65535 f) in
-                let steady = steady-pairs-by found firsts v (get_or scratch p 0 - 1) in
+                let steady = steady_pairs_by found firsts v (get_or scratch p 0 - 1) in
                 let grown : Grows (held (sized n' 0) (store table' originals')) (held (sized n'' 0) (store table'' originals')) =
                 rw (held_plain n' table' originals', held_plain n'' table'' originals') (done_grows steady d) in
                 let z = c.stands in
@@ -204,7 +204,7 @@ module _ {frame : Frame} {formulas effects notes operators : List ℕ} {o : ℕ}
           }
 
   -- there was no room for them
-  pub conditions-full :
+  pub conditions_full :
       {e : ℕ}
       → e ≡ (operator_at operators o).effect
       → {notes' : List ℕ} {n' : ℕ} {s' : Store} {scratch' found : List ℕ} {room : Bool} {notes₁ scratch₁ : List ℕ} {n₁ : ℕ} {s₁ : Store}
@@ -214,11 +214,11 @@ module _ {frame : Frame} {formulas effects notes operators : List ℕ} {o : ℕ}
       (guarded_by frame formulas effects firsts v (operator_at operators o).effect (get_or scratch (operator_at operators o).precondition 0 - 1)) frame
       formulas effects notes₁ n (store table originals) n₁ s₁ scratch₁ 65535
   unfolding guarded_by bind
-  conditions-full its q c =
+  conditions_full its q c =
       record {
         done = λ f. absurd (f refl);
         over = λ _ w.
             let g = conditions_of frame formulas effects (operator_at operators o).effect frame.variables (held (sized n 0) (store table originals)) in
             let p = get_or scratch (operator_at operators o).precondition 0 - 1 in
-            (rw its at c).over q (within_before ((steady-pairs-by g.value firsts v p).grow g.st) w);
+            (rw its at c).over q (within_before ((steady_pairs_by g.value firsts v p).grow g.st) w);
       }

@@ -15,7 +15,7 @@ use Rattle.formula_builder.specs.declared.Frame.{Frame}
 use Rattle.formula_builder.specs.declared.Size.{Size}
 use Rattle.formula_builder.specs.declared.Step.{Step}
 use Rattle.formula_builder.specs.Inner.Held.{Store, held, size_of, sized, stepped, JoinReady, Ready, Done, Builds}
-use Rattle.formula_builder.proofs.Steps.{builds-done, builds-over, builds-bind, builds_stop, builds_stands, bind_done, within_before}
+use Rattle.formula_builder.proofs.Steps.{builds_done, builds_over, builds_bind, builds_stop, builds_stands, bind_done, within_before}
 use Rattle.translation.specs.Pairs.{through, without_both, unless_never}
 use Rattle.translation.proofs.GuardSteady.{steady_through, steady_unless_never}
 use Rattle.operator_guards.specs.Inner.Steps.{TableBuilds}
@@ -29,7 +29,7 @@ pub done_builds :
     {m : Build ℕ} {frame : Frame} {at : Size} {before after : Store} {n w k : ℕ}
     → Done m frame at before after (stepped n w k)
     → Builds m frame at before after (stepped n w k)
-done_builds d = builds-done (not_full d.ready d.below) d
+done_builds d = builds_done (not_full d.ready d.below) d
 
 pub joins_ready : {frame : Frame} {n w a b : ℕ} {s : Store} → Ready frame (sized n w) s → a < n → b < n → JoinReady frame.rows n s.table a b
 joins_ready ready l r = record { rows = ready.rows; two = ready.two; left = l; right = r }
@@ -61,10 +61,10 @@ unfolding passing
 steady_passing from end x steady = steady_through (end - from) x (λ k y. steady (from + k) y)
 
 module _ (f : ℕ → ℕ → Build ℕ) (from p : ℕ) {frame : Frame} where
-  pub passing-none :
+  pub passing_none :
       {n w : ℕ} {s : Store} → Ready frame (sized n w) s → p < n → Done (passing from from f p) frame (sized n w) s s (stepped n w p)
   unfolding passing through
-  passing-none ready h =
+  passing_none ready h =
       let none : from - from ≡ 0 = omega arith in
       rw none ((builds_stands p ready h).done (not_full ready h))
 
@@ -93,61 +93,61 @@ module _ (f : ℕ → ℕ → Build ℕ) (from p : ℕ) {frame : Frame} where
         same : from + (y - from) ≡ y → bind (through (y - from) (λ k z. f (from + k) z) p) (λ z. f (from + (y - from)) z) (held at before) ≡ f y l.row (held (size_of l) mid)
         same here = rw here (bind_done (f y) d)
 
-    pub passing-next : r.full ≡ false → Done (passing from (y + 1) f p) frame at before after r
-    passing-next e = one_more.done e
+    pub passing_next : r.full ≡ false → Done (passing from (y + 1) f p) frame at before after r
+    passing_next e = one_more.done e
 
-    pub passing-over :
+    pub passing_over :
         ((k z : ℕ) → Steady (f k z)) → (end : ℕ) → y < end → r.full ≡ true → Builds (passing from end f p) frame at before after r
     unfolding passing
-    passing-over steady end h e =
-        builds-over e (one_more.still e)
+    passing_over steady end h e =
+        builds_over e (one_more.still e)
         (λ w.
         one_more.over e
         (within_before
         (through_grows p (held at before) (λ k z. steady (from + k) z) (y + 1 - from) (end - from) (omega arith)) w))
 
-  pub passing-end :
+  pub passing_end :
       {at : Size} {before after : Store} {n w k : ℕ} (y end : ℕ)
       → y - from ≤ end - from
       → end ≤ y
       → Done (passing from y f p) frame at before after (stepped n w k)
       → Builds (passing from end f p) frame at before after (stepped n w k)
   unfolding passing
-  passing-end y end low high d =
+  passing_end y end low high d =
       let same : end - from ≡ y - from = omega arith in
       rw same (done_builds d)
 
 -- "not (one and other)", joined after the precondition so far.
 module _ (one other p : ℕ) {frame : Frame} {n : ℕ} {table mid : List ℕ} {m k : ℕ} (b : TableBuilds (join plain one other) frame n table mid m k) where
-  pub pair-first : k ≡ 65535 → TableBuilds (without_both one other p) frame n table mid m k
+  pub pair_first : k ≡ 65535 → TableBuilds (without_both one other p) frame n table mid m k
   unfolding without_both
-  pair-first e =
+  pair_first e =
       builds_stop (λ k. bind (row (record { kind = 3; a = k; b = 0 })) (λ n. join plain p n))
       (λ k. steady_bind (steady_row _) (λ n. steady_join plain p n)) b (eq-eqb k 65535 e)
 
   module _ (f : k ≡ 65535 → ⊥) {late : List ℕ} {m' k' : ℕ} (c : TableBuilds (row (record { kind = 3; a = k; b = 0 })) frame m mid late m' k') where
-    pub pair-second : k' ≡ 65535 → TableBuilds (without_both one other p) frame n table late m' k'
+    pub pair_second : k' ≡ 65535 → TableBuilds (without_both one other p) frame n table late m' k'
     unfolding without_both
-    pair-second e =
-        builds-bind (λ k. bind (row (record { kind = 3; a = k; b = 0 })) (λ n. join plain p n)) b (ne_eqb k 65535 f)
+    pair_second e =
+        builds_bind (λ k. bind (row (record { kind = 3; a = k; b = 0 })) (λ n. join plain p n)) b (ne_eqb k 65535 f)
         (builds_stop (λ n. join plain p n) (λ n. steady_join plain p n) c (eq-eqb k' 65535 e))
 
     -- what the last join asks
-    pub pair-asks : (k' ≡ 65535 → ⊥) → p < n → JoinReady frame.rows m' late p k'
-    pair-asks g h =
+    pub pair_asks : (k' ≡ 65535 → ⊥) → p < n → JoinReady frame.rows m' late p k'
+    pair_asks g h =
         let x = b.done (ne_eqb k 65535 f) in
         let y = c.done (ne_eqb k' 65535 g) in
         joins_ready y.ready (omega (arith, h, x.grew, y.grew)) y.below
 
-    pub pair-whole :
+    pub pair_whole :
         {last : List ℕ} {m'' k'' : ℕ}
         → (k' ≡ 65535 → ⊥)
         → TableBuilds (join plain p k') frame m' late last m'' k''
         → TableBuilds (without_both one other p) frame n table last m'' k''
     unfolding without_both
-    pair-whole g d =
-        builds-bind (λ k. bind (row (record { kind = 3; a = k; b = 0 })) (λ n. join plain p n)) b (ne_eqb k 65535 f)
-        (builds-bind (λ n. join plain p n) c (ne_eqb k' 65535 g) d)
+    pair_whole g d =
+        builds_bind (λ k. bind (row (record { kind = 3; a = k; b = 0 })) (λ n. join plain p n)) b (ne_eqb k 65535 f)
+        (builds_bind (λ n. join plain p n) c (ne_eqb k' 65535 g) d)
 
 -- none where one of the two is false
 module _ (one other p : ℕ) where
@@ -159,31 +159,31 @@ module _ (one other p : ℕ) where
   unfolding unless_never
   never_right h e = rw (ne_eqb one 0 h, e) refl
 
-  pub clash-may-be : (one ≡ 0 → ⊥) → (other ≡ 0 → ⊥) → unless_never one other p ≡ without_both one other p
+  pub clash_may_be : (one ≡ 0 → ⊥) → (other ≡ 0 → ⊥) → unless_never one other p ≡ without_both one other p
   unfolding unless_never
-  clash-may-be h g = rw (ne_eqb one 0 h, ne_eqb other 0 g) refl
+  clash_may_be h g = rw (ne_eqb one 0 h, ne_eqb other 0 g) refl
 
 -- The loops of pairs are steady.
 module _ (found : List ℕ) where
-  pub steady-with : (x y q : ℕ) → Steady (with_flag found x y q)
-  steady-with x y q = steady_unless_never (get_or found x 0) (get_or found y 0) q
+  pub steady_with : (x y q : ℕ) → Steady (with_flag found x y q)
+  steady_with x y q = steady_unless_never (get_or found x 0) (get_or found y 0) q
 
-  pub steady-above : (end x q : ℕ) → Steady (above found end x q)
+  pub steady_above : (end x q : ℕ) → Steady (above found end x q)
   unfolding above
-  steady-above end x q = steady_passing (x + 1) end q (steady-with x)
+  steady_above end x q = steady_passing (x + 1) end q (steady_with x)
 
-  pub steady-own : (firsts : List ℕ) (a q : ℕ) → Steady (own_pairs firsts found a q)
+  pub steady_own : (firsts : List ℕ) (a q : ℕ) → Steady (own_pairs firsts found a q)
   unfolding own_pairs between
-  steady-own firsts a q = steady_passing (get_or firsts a 0) (get_or firsts (a + 1) 0) q (steady-above (get_or firsts (a + 1) 0))
+  steady_own firsts a q = steady_passing (get_or firsts a 0) (get_or firsts (a + 1) 0) q (steady_above (get_or firsts (a + 1) 0))
 
-  pub steady-pairs-by : (firsts : List ℕ) (v q : ℕ) → Steady (pairs_by firsts v found q)
+  pub steady_pairs_by : (firsts : List ℕ) (v q : ℕ) → Steady (pairs_by firsts v found q)
   unfolding pairs_by
-  steady-pairs-by firsts v q = steady_passing 0 v q (steady-own firsts)
+  steady_pairs_by firsts v q = steady_passing 0 v q (steady_own firsts)
 
 -- The ways out of the three loops.
 module _ (found : List ℕ) (p : ℕ) {frame : Frame} {at : Size} {before : Store} where
   module _ {mid after : Store} {l r : Step} where
-    pub above-over :
+    pub above_over :
         (end x y : ℕ)
         → x + 1 ≤ y
         → y < end
@@ -192,9 +192,9 @@ module _ (found : List ℕ) (p : ℕ) {frame : Frame} {at : Size} {before : Stor
         → r.full ≡ true
         → Builds (above found end x p) frame at before after r
     unfolding above
-    above-over end x y low h d b e = passing-over (with_flag found x) (x + 1) p y low d b (steady-with found x) end h e
+    above_over end x y low h d b e = passing_over (with_flag found x) (x + 1) p y low d b (steady_with found x) end h e
 
-    pub between-over :
+    pub between_over :
         (from end x : ℕ)
         → from ≤ x
         → x < end
@@ -203,9 +203,9 @@ module _ (found : List ℕ) (p : ℕ) {frame : Frame} {at : Size} {before : Stor
         → r.full ≡ true
         → Builds (between found from end p) frame at before after r
     unfolding between
-    between-over from end x low h d b e = passing-over (above found end) from p x low d b (steady-above found end) end h e
+    between_over from end x low h d b e = passing_over (above found end) from p x low d b (steady_above found end) end h e
 
-    pub pairs-over :
+    pub pairs_over :
         (firsts : List ℕ) (v a : ℕ)
         → a < v
         → Done (passing 0 a (own_pairs firsts found) p) frame at before mid l
@@ -213,26 +213,26 @@ module _ (found : List ℕ) (p : ℕ) {frame : Frame} {at : Size} {before : Stor
         → r.full ≡ true
         → Builds (pairs_by firsts v found p) frame at before after r
     unfolding pairs_by
-    pairs-over firsts v a h d b e = passing-over (own_pairs firsts found) 0 p a (omega arith) d b (steady-own found firsts) v h e
+    pairs_over firsts v a h d b e = passing_over (own_pairs firsts found) 0 p a (omega arith) d b (steady_own found firsts) v h e
 
   module _ {after : Store} {n w k : ℕ} where
-    pub above-end :
+    pub above_end :
         (end x y : ℕ)
         → y - (x + 1) ≤ end - (x + 1)
         → end ≤ y
         → Done (passing (x + 1) y (with_flag found x) p) frame at before after (stepped n w k)
         → Builds (above found end x p) frame at before after (stepped n w k)
     unfolding above
-    above-end end x y low high d = passing-end (with_flag found x) (x + 1) p y end low high d
+    above_end end x y low high d = passing_end (with_flag found x) (x + 1) p y end low high d
 
-    pub between-end :
+    pub between_end :
         (from end x : ℕ)
         → x - from ≤ end - from
         → end ≤ x
         → Done (passing from x (above found end) p) frame at before after (stepped n w k)
         → Builds (between found from end p) frame at before after (stepped n w k)
     unfolding between
-    between-end from end x low high d = passing-end (above found end) from p x end low high d
+    between_end from end x low high d = passing_end (above found end) from p x end low high d
 
     pub pairs_end :
         (firsts : List ℕ) (v a : ℕ)
@@ -241,7 +241,7 @@ module _ (found : List ℕ) (p : ℕ) {frame : Frame} {at : Size} {before : Stor
         → Done (passing 0 a (own_pairs firsts found) p) frame at before after (stepped n w k)
         → Builds (pairs_by firsts v found p) frame at before after (stepped n w k)
     unfolding pairs_by
-    pairs_end firsts v a low high d = passing-end (own_pairs firsts found) 0 p a v (omega arith) high d
+    pairs_end firsts v a low high d = passing_end (own_pairs firsts found) 0 p a v (omega arith) high d
 
 -- a variable's own pairs
 pub own_is :
@@ -251,11 +251,11 @@ own_is firsts found a q = refl
 
 -- What a part of the pairs asks, behind a step.
 module _ {frame : Frame} {n : ℕ} {table found : List ℕ} {end p : ℕ} (a : FlagsReady frame n table found end p) where
-  pub flags-after :
+  pub flags_after :
       {m : Build ℕ} {table' : List ℕ} {n' k : ℕ}
       → Done m frame (sized n 0) (record { table = table; originals = [] }) (record { table = table'; originals = [] }) (stepped n' 0 k)
       → FlagsReady frame n' table' found end k
-  flags-after d =
+  flags_after d =
       record {
         ready = d.ready;
         room = a.room;
@@ -264,8 +264,8 @@ module _ {frame : Frame} {n : ℕ} {table found : List ℕ} {end p : ℕ} (a : F
         row = d.below;
       }
 
-  pub pair-ready : (x y : ℕ) → x < end → y < end → PairReady frame n table (get_or found x 0) (get_or found y 0) p
-  pair-ready x y h g = record { ready = a.ready; left = a.rows x h; right = a.rows y g; row = a.row }
+  pub pair_ready : (x y : ℕ) → x < end → y < end → PairReady frame n table (get_or found x 0) (get_or found y 0) p
+  pair_ready x y h g = record { ready = a.ready; left = a.rows x h; right = a.rows y g; row = a.row }
 
   pub flags_below : (end' : ℕ) → end' ≤ end → FlagsReady frame n table found end' p
   flags_below end' h =

@@ -59,10 +59,10 @@ stored_is d (r ∷ rs) zero percent = refl
 stored_is d (r ∷ rs) (suc number) percent = ap {B = List OperatorRecord} (λ rest. r ∷ rest) (stored_is d rs number percent)
 
 -- an answer of 0 goes with that store
-pub change-made : (d : OperatorRecord) (rs : List OperatorRecord) (number percent r : ℕ) → r ≡ number_of (length rs) number percent → r ≡ 0
+pub change_made : (d : OperatorRecord) (rs : List OperatorRecord) (number percent r : ℕ) → r ≡ number_of (length rs) number percent → r ≡ 0
     → ChangeGives (change rs number percent) r (set rs number (with_percent percent (get_or rs number d)))
 unfolding change
-change-made d rs number percent r is zeroed =
+change_made d rs number percent r is zeroed =
     let by_number = changed_by (number_of (length rs) number percent) rs number percent (sym is ∙ zeroed) in
     subst (λ after. ChangeGives (change rs number percent) r after) (stored_is d rs number percent)
     (subst (λ k. ChangeGives (change rs number percent) k (changed rs number percent)) (sym is) by_number)

@@ -13,7 +13,7 @@ use borrow.Author.Tests.{le-leb, lt-leb}
 use lib.Seq.{sets-eq, get_or-set_same, get_or-set_other, set-get_or, ext_get_or}
 use Rattle.task.specs.Bounded.{upto}
 use Rattle.task.specs.Rules.{no_operator}
-use Rattle.task.proofs.Bounded.{length-upto, getD-upto}
+use Rattle.task.proofs.Bounded.{length_upto, getD_upto}
 use Rattle.task.specs.Table.{Operator, operator_width, operator_at}
 use Rattle.task.specs.Words.{operator_row_words}
 use Rattle.task.specs.Inner.Stored.{operator_stored}
@@ -88,9 +88,9 @@ module _ (t : List ℕ) (i : ℕ) (o : Operator) where
         percent = elsewhere (at + 3) (omega arith) (omega arith) (omega arith) (λ q. apart (omega arith)) j;
       }
 
-  own-stored : operator_stored t i (operator_at t i) ≡ t
+  own_stored : operator_stored t i (operator_at t i) ≡ t
   unfolding operator_at
-  own-stored = simp set-get_or
+  own_stored = simp set-get_or
 
 at_or_not : {A : Type 0} (k i : ℕ) → (k ≡ i → A) → (k ≢ i → A) → A
 at_or_not {A} k i here apart = go (ℕ_discrete k i)
@@ -117,7 +117,7 @@ read_back t i r h =
 pub own_record : (t : List ℕ) (i : ℕ) → with_record t i (row_record t i) ≡ t
 own_record t i =
     within_or_past (operator_width * i + operator_width) (length t)
-    (λ h. rw (sym (record_inside t i h)) (sym (stored_inside t i (as_record (operator_at t i)) h) ∙ own-stored t i (operator_at t i)))
+    (λ h. rw (sym (record_inside t i h)) (sym (stored_inside t i (as_record (operator_at t i)) h) ∙ own_stored t i (operator_at t i)))
     (λ h. sym (stored_outside t i (row_record t i) h))
 
 -- of a table of n operators, with a record stored as row i, that one is the record's and the others are as they were
@@ -127,11 +127,11 @@ one_operator n t i r room l =
     let o = as_operator r in
     let before = upto n (operator_at t) in
     let inside : operator_width * i + operator_width ≤ length t = omega arith in
-    let size : length before ≡ n = length-upto n (operator_at t) in
+    let size : length before ≡ n = length_upto n (operator_at t) in
     let of-rows : (k : ℕ) → k < n → operator_at (operator_stored t i o) k ≡ get_or (set before i o) k no_operator =
     λ k b. at_or_not k i
     (λ q. rw q (same t i o inside ∙ sym (get_or-set_same before i o no_operator (omega arith))))
-    (λ apart. other t i o k apart ∙ sym (get_or-set_other before i k o no_operator apart ∙ getD-upto n (operator_at t) k no_operator b)) in
+    (λ apart. other t i o k apart ∙ sym (get_or-set_other before i k o no_operator apart ∙ getD_upto n (operator_at t) k no_operator b)) in
     rw (sym (stored_inside t i r inside))
-    (ext_get_or no_operator _ _ (length-upto n _ ∙ sym (length-set before i o ∙ size))
-    (λ k b. let below = rw (length-upto n (operator_at (operator_stored t i o))) at b in getD-upto n _ k no_operator below ∙ of-rows k below))
+    (ext_get_or no_operator _ _ (length_upto n _ ∙ sym (length-set before i o ∙ size))
+    (λ k b. let below = rw (length_upto n (operator_at (operator_stored t i o))) at b in getD_upto n _ k no_operator below ∙ of-rows k below))

@@ -10,7 +10,7 @@ use Rattle.task.specs.declared.Head.{Head}
 use Rattle.task.specs.Table.{Task}
 use Rattle.task.specs.Semantics.{effcond, sets, clears, value_after, apply}
 use Rattle.task.specs.Run.{Progress, stopped, effect_of_operator, applicable, after_step, answer, run_on}
-use Rattle.task.proofs.Bounded.{length-upto, getD-upto}
+use Rattle.task.proofs.Bounded.{length_upto, getD_upto}
 use Rattle.operator_step.specs.declared.Taken.{Taken}
 use Rattle.operator_step.specs.Inner.Steps.{StateReady, Took, took_by, took, Takes}
 
@@ -62,28 +62,28 @@ value_bit false true old h = omega arith
 value_bit false false old h = h
 
 module _ (h : Head) (t : Task) (s : List ℕ) (ready : StateReady h s) (o : ℕ) where
-  applied-ready : StateReady h (apply s (effect_of_operator t o))
+  applied_ready : StateReady h (apply s (effect_of_operator t o))
   unfolding apply value_after
-  applied-ready =
+  applied_ready =
       let e = effect_of_operator t o in
       record {
-        size = length-upto (length s) (value_after s e) ∙ ready.size;
+        size = length_upto (length s) (value_after s e) ∙ ready.size;
         bits =
             λ v l.
-            let b : v < length s = rw (length-upto (length s) (value_after s e)) at l in
-            rw (getD-upto (length s) (value_after s e) v 0 b)
+            let b : v < length s = rw (length_upto (length s) (value_after s e)) at l in
+            rw (getD_upto (length s) (value_after s e) v 0 b)
             (value_bit (effcond s (sets v) e) (effcond s (clears v) e) (get_or s v 0) (ready.bits v b));
       }
 
-  took-ready : StateReady h (took t s o).state
+  took_ready : StateReady h (took t s o).state
   unfolding took took_by
-  took-ready = go (ltb o (length t.operators)) (applicable t s o)
+  took_ready = go (ltb o (length t.operators)) (applicable t s o)
     where
       go :
           (b c : Bool)
           → let w : Took = took_by b c t s o in
           StateReady h w.state
-      go true true = applied-ready
+      go true true = applied_ready
       go true false = ready
       go false c = ready
 
@@ -92,4 +92,4 @@ pub taken_ready :
     → Takes t s o r after
     → StateReady h s
     → StateReady h after
-taken_ready {h} {t} {s} {o} taken ready = rw taken.state (took-ready h t s ready o)
+taken_ready {h} {t} {s} {o} taken ready = rw taken.state (took_ready h t s ready o)

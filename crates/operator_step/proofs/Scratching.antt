@@ -19,21 +19,21 @@ drop_more m n a b h e =
     rw (← q) (sym (drop-drop (n - m) m a) ∙ ap (drop (n - m)) e ∙ drop-drop (n - m) m b)
 
 module _ {h : Head} {f e o s : List ℕ} (n : ℕ) {p : ℕ} (same : p ≡ asked h o n) {before values : List ℕ} (valued : Valued f (p + 1) s before values) where
-  pub scratch-stopped : {r : Taken} → (r.stop ≡ 0 → ⊥) → Scratched h f e o s n r before values
-  scratch-stopped d =
+  pub scratch_stopped : {r : Taken} → (r.stop ≡ 0 → ⊥) → Scratched h f e o s n r before values
+  scratch_stopped d =
       record {
         stopped = λ q. rw (← same) valued;
         done = λ z. absurd (d z);
       }
 
-  pub scratch-done :
+  pub scratch_done :
       {r : Taken} {after : List ℕ}
       → r.stop ≡ 0
       → p + 1 ≤ h.formulas
       → length values ≡ length before
       → Decided f e h.formulas (operator_at o n).effect s values after
       → Scratched h f e o s n r before after
-  scratch-done z low long d =
+  scratch_done z low long d =
       record {
         stopped = λ q. absurd (q z);
         done =

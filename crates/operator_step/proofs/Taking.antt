@@ -16,7 +16,7 @@ use Rattle.task.specs.Semantics.{holds, apply}
 use Rattle.task.specs.Tree.{formula_of, effect_of}
 use Rattle.task.proofs.Charges.{charge_most}
 use Rattle.task.specs.Run.{operator_of, effect_of_operator, goal_holds, applicable, charge_of, charge}
-use Rattle.task.proofs.Bounded.{length-upto, getD-upto}
+use Rattle.task.proofs.Bounded.{length_upto, getD_upto}
 use Rattle.task.specs.Inner.Rows.{EffectsDown}
 use Rattle.task.proofs.Values.{values_none}
 use Rattle.task.specs.Inner.Values.{Values}
@@ -24,18 +24,18 @@ use Rattle.evaluating.specs.Inner.Values.{rows_of, Valuable}
 use Rattle.applying.specs.Inner.Marks.{changed, Markable}
 use Rattle.applying.specs.Inner.Carrying.{ConditionsReady, Carried}
 use Rattle.operator_step.specs.Inner.Steps.{running, StateReady, Ready, Took, stayed, took_by, took, Takes}
-use Rattle.evaluating.proofs.Valuing.{same-holds, same-values}
+use Rattle.evaluating.proofs.Valuing.{same_holds, same_values}
 use Rattle.applying.proofs.Applying.{applied}
 
 -- the formula that an operator asks for, by its number
 module _ (o : List ℕ) (m n : ℕ) where
-  pub none-asked : m ≤ n → 0 ≡ (get_or (upto m (operator_at o)) n no_operator).precondition
-  none-asked b =
-      let outside : length (upto m (operator_at o)) ≤ n = rw (length-upto m (operator_at o)) b in
+  pub none_asked : m ≤ n → 0 ≡ (get_or (upto m (operator_at o)) n no_operator).precondition
+  none_asked b =
+      let outside : length (upto m (operator_at o)) ≤ n = rw (length_upto m (operator_at o)) b in
       ap (λ (r : Operator). r.precondition) (sym (get_or-eq_default (upto m (operator_at o)) no_operator {n = n} outside))
 
-  pub one-asked : n < m → (operator_at o n).precondition ≡ (get_or (upto m (operator_at o)) n no_operator).precondition
-  one-asked b = ap (λ (r : Operator). r.precondition) (sym (getD-upto m (operator_at o) n no_operator b))
+  pub one_asked : n < m → (operator_at o n).precondition ≡ (get_or (upto m (operator_at o)) n no_operator).precondition
+  one_asked b = ap (λ (r : Operator). r.precondition) (sym (getD_upto m (operator_at o) n no_operator b))
 
 -- 17 comes before 18, so a number outside need not be asked for its precondition
 by_number : (there holding : Bool) → unless there 17 (unless holding 18 0) ≡ unless there 17 (unless (there && holding) 18 0)
@@ -46,18 +46,18 @@ by_number false holding = refl
 module _
     (t : Task) (s : List ℕ) (n stop : ℕ)
     (told : stop ≡ unless (ltb n (length t.operators)) 17 (unless (applicable t s n) 18 0)) where
-  took-stopped : (stop ≡ 0 → ⊥) → took t s n ≡ stayed stop s
+  took_stopped : (stop ≡ 0 → ⊥) → took t s n ≡ stayed stop s
   unfolding took took_by
-  took-stopped = go (ltb n (length t.operators)) (applicable t s n) told
+  took_stopped = go (ltb n (length t.operators)) (applicable t s n) told
     where
       go : (b c : Bool) → stop ≡ unless b 17 (unless c 18 0) → (stop ≡ 0 → ⊥) → took_by b c t s n ≡ stayed stop s
       go true true q d = absurd (d q)
       go true false q d = ap (λ (k : ℕ). stayed k s) (sym q)
       go false c q d = ap (λ (k : ℕ). stayed k s) (sym q)
 
-  took-done : stop ≡ 0 → (ltb n (length t.operators) ≡ true) × (took t s n ≡ took_by true true t s n)
+  took_done : stop ≡ 0 → (ltb n (length t.operators) ≡ true) × (took t s n ≡ took_by true true t s n)
   unfolding took took_by
-  took-done z = go (ltb n (length t.operators)) (applicable t s n) (sym told ∙ z)
+  took_done z = go (ltb n (length t.operators)) (applicable t s n) (sym told ∙ z)
     where
       go :
           (b c : Bool)
@@ -88,8 +88,8 @@ module _ {h : Head} {f e o s scratch : List ℕ} (ready : Ready h f e o s scratc
         below = values_none s (rows_of (p + 1) f) scratch;
       }
 
-  all-valuable : Valuable f 0 h.formulas s scratch
-  all-valuable =
+  all_valuable : Valuable f 0 h.formulas s scratch
+  all_valuable =
       record {
         there = ready.tables.formulas_there;
         rule = λ i l. rw ready.state.size (ready.tables.formula i l);
@@ -99,23 +99,23 @@ module _ {h : Head} {f e o s scratch : List ℕ} (ready : Ready h f e o s scratc
         below = values_none s (rows_of h.formulas f) scratch;
       }
 
-  effects-down : EffectsDown (length s) h.formulas (rows_of h.effects e)
-  effects-down =
+  effects_down : EffectsDown (length s) h.formulas (rows_of h.effects e)
+  effects_down =
       record {
         row =
             λ i l.
-            let b : i < h.effects = rw (length-upto h.effects (row_at e)) at l in
-            rw (getD-upto h.effects (row_at e) i no_row b, ready.state.size) (ready.tables.effect i b);
+            let b : i < h.effects = rw (length_upto h.effects (row_at e)) at l in
+            rw (getD_upto h.effects (row_at e) i no_row b, ready.state.size) (ready.tables.effect i b);
       }
 
-  operators-same : length (running h f e o).operators ≡ h.operators
+  operators_same : length (running h f e o).operators ≡ h.operators
   unfolding task_of
-  operators-same = length-upto h.operators (operator_at o)
+  operators_same = length_upto h.operators (operator_at o)
 
   module _ (n : ℕ) where
-    operator-same : n < h.operators → operator_of (running h f e o) n ≡ operator_at o n
+    operator_same : n < h.operators → operator_of (running h f e o) n ≡ operator_at o n
     unfolding operator_of task_of
-    operator-same there = getD-upto h.operators (operator_at o) n no_operator there
+    operator_same there = getD_upto h.operators (operator_at o) n no_operator there
 
     -- the precondition that is looked at, and what it gives
     module _ {p : ℕ} (asked : p ≡ (get_or (upto h.operators (operator_at o)) n no_operator).precondition) where
@@ -128,38 +128,38 @@ module _ {h : Head} {f e o s scratch : List ℕ} (ready : Ready h f e o s scratc
               → (get_or (upto h.operators (operator_at o)) n no_operator).precondition < h.formulas
           go true q =
               let inside : n < h.operators = ltb-true n h.operators q in
-              rw (← one-asked o h.operators n inside) (ready.tables.operator n inside).formula
+              rw (← one_asked o h.operators n inside) (ready.tables.operator n inside).formula
           go false q =
-              rw (← none-asked o h.operators n (ltb-false n h.operators q)) (omega (arith, ready.tables.goal))
+              rw (← none_asked o h.operators n (ltb-false n h.operators q)) (omega (arith, ready.tables.goal))
 
       module _
           {holding : Bool} {stop : ℕ}
           (held : holding ≡ holds s (formula_of (rows_of (p + 1) f) p))
           (told : stop ≡ unless (ltb n h.operators) 17 (unless holding 18 0)) where
-        holding-same : holding ≡ holds s (formula_of (rows_of h.formulas f) (operator_of (running h f e o) n).precondition)
+        holding_same : holding ≡ holds s (formula_of (rows_of h.formulas f) (operator_of (running h f e o) n).precondition)
         unfolding operator_of task_of
-        holding-same =
+        holding_same =
             held
-            ∙ same-holds all-valuable (p + 1) p (omega (arith, asked-below)) (omega arith)
+            ∙ same_holds all_valuable (p + 1) p (omega (arith, asked-below)) (omega arith)
             ∙ ap (λ (i : ℕ). holds s (formula_of (rows_of h.formulas f) i)) asked
 
-        stop-same :
+        stop_same :
             stop
             ≡ unless (ltb n (length (running h f e o).operators)) 17 (unless (applicable (running h f e o) s n) 18 0)
         unfolding applicable task_of
-        stop-same =
+        stop_same =
             told
-            ∙ rw (operators-same, holding-same)
+            ∙ rw (operators_same, holding_same)
             (by_number (ltb n h.operators) (holds s (formula_of (rows_of h.formulas f) (operator_of (running h f e o) n).precondition)))
 
         pub stays : (stop ≡ 0 → ⊥) → Takes (running h f e o) s n (record { stop = stop; charge = 0 }) s
         stays d =
             takes (running h f e o) s n (stayed stop s)
-            (took-stopped (running h f e o) s n stop stop-same d) (omega arith)
+            (took_stopped (running h f e o) s n stop stop_same d) (omega arith)
 
         module _ (z : stop ≡ 0) where
           pub there : n < h.operators
-          there = rw operators-same at (ltb-true n (length (running h f e o).operators) (took-done (running h f e o) s n stop stop-same z).0)
+          there = rw operators_same at (ltb-true n (length (running h f e o).operators) (took_done (running h f e o) s n stop stop_same z).0)
 
           markable :
               (values : List ℕ)
@@ -178,7 +178,7 @@ module _ {h : Head} {f e o s scratch : List ℕ} (ready : Ready h f e o s scratc
               (values : List ℕ) (same : length values ≡ length scratch)
               (known : Values s (rows_of (p + 1) f) (p + 1) values) where
             known-here : Values s (rows_of h.formulas f) (p + 1) values
-            known-here = same-values all-valuable (p + 1) values (omega (arith, asked-below)) known
+            known-here = same_values all_valuable (p + 1) values (omega (arith, asked-below)) known
 
             pub conditions-ready : ConditionsReady false f e (p + 1) h.formulas (operator_at o n).effect s values
             conditions-ready =
@@ -186,9 +186,9 @@ module _ {h : Head} {f e o s scratch : List ℕ} (ready : Ready h f e o s scratc
                   formulas =
                       λ q.
                       record {
-                        there = all-valuable.there;
-                        rule = all-valuable.rule;
-                        state_bits = all-valuable.state_bits;
+                        there = all_valuable.there;
+                        rule = all_valuable.rule;
+                        state_bits = all_valuable.state_bits;
                         room = omega (arith, ready.room, same);
                         order = omega (arith, asked-below);
                         below = known-here;
@@ -205,7 +205,7 @@ module _ {h : Head} {f e o s scratch : List ℕ} (ready : Ready h f e o s scratc
             carried-out marks after passes low =
                 rw (passes.state ∙ law)
                 (takes (running h f e o) s n (by_row (operator_at o n))
-                ((took-done (running h f e o) s n stop stop-same z).1 ∙ ap by_row (operator-same there))
+                ((took_done (running h f e o) s n stop stop_same z).1 ∙ ap by_row (operator_same there))
                 (charge_most (operator_at o n) low (ready.tables.operator n there).percent))
               where
                 by_row : Operator → Took
@@ -222,7 +222,7 @@ module _ {h : Head} {f e o s scratch : List ℕ} (ready : Ready h f e o s scratc
                 law =
                     let d = passes.deciding in
                     applied e h.effects (length s) h.formulas (operator_at o n).effect s (rows_of h.formulas f)
-                    d.values marks (ready.tables.operator n there).changes effects-down
+                    d.values marks (ready.tables.operator n there).changes effects_down
                     (markable d.values (d.same ∙ same)) d.evaluating.known d.marking
 
 -- the tables stay ready when the state and scratch change
@@ -243,5 +243,5 @@ pub goal_told :
     → holds now (formula_of (rows_of (h.goal + 1) f) h.goal) ≡ goal_holds (running h f e o) now
 unfolding goal_holds task_of
 goal_told {h} {scratch = scratch} ready state =
-    same-holds (all-valuable (ready_again {rest = scratch} ready state refl)) (h.goal + 1) h.goal
+    same_holds (all_valuable (ready_again {rest = scratch} ready state refl)) (h.goal + 1) h.goal
     (omega (arith, ready.tables.goal)) (omega arith)

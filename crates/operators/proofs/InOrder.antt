@@ -6,7 +6,7 @@ use Rattle.task.specs.Table.{operator_at}
 use Rattle.normal_form.specs.Builder.{St, plain}
 use Rattle.normal_form.specs.Growth.{Grows, Steady}
 use Rattle.normal_form.proofs.Growth.{steady_bind, steady_each}
-use Rattle.normal_form.proofs.Steady.{steady-changes}
+use Rattle.normal_form.proofs.Steady.{steady_changes}
 use Rattle.normal_form.proofs.ShapeSizes.{each_grows}
 use Rattle.formula_builder.specs.declared.Frame.{Frame}
 use Rattle.images.specs.Inner.Images.{becoming}
@@ -21,18 +21,18 @@ steady_operator_built frame formulas effects p e =
     steady_bind (steady_image_at frame formulas plain p)
     (λ f.
     steady_each frame.variables
-    (λ k. steady-changes (becoming frame) (steady_becoming frame) (effect_tree frame formulas effects e) k))
+    (λ k. steady_changes (becoming frame) (steady_becoming frame) (effect_tree frame formulas effects e) k))
 
 module _ (frame : Frame) (formulas effects operators : List ℕ) where
-  steady-here : (o : ℕ) → Steady (operator_here frame formulas effects operators o)
+  steady_here : (o : ℕ) → Steady (operator_here frame formulas effects operators o)
   unfolding operator_here
-  steady-here o =
+  steady_here o =
       let source = operator_at operators o in
       steady_operator_built frame formulas effects source.precondition source.effect
 
   -- one more operator
-  pub more-grows :
+  pub more_grows :
       (s : St) (n : ℕ)
       → Grows (operators_built frame formulas effects operators n s).st (operators_built frame formulas effects operators (n + 1) s).st
   unfolding operators_built
-  more-grows s n = each_grows (operator_here frame formulas effects operators) s steady-here n (n + 1) (omega arith)
+  more_grows s n = each_grows (operator_here frame formulas effects operators) s steady_here n (n + 1) (omega arith)

@@ -16,27 +16,27 @@ use Rattle.images.specs.Inner.Images.{becoming}
 use Rattle.conditions.specs.Inner.Conditions.{effect_tree, condition_at, Unnamed}
 use Rattle.variable_changes.specs.Inner.Stands.{Reaches}
 use Rattle.atom_sets.specs.Inner.Sets.{lacks, set_from}
-use Rattle.atom_sets.proofs.Places.{none_from, none-lowest, some-lowest}
+use Rattle.atom_sets.proofs.Places.{none_from, none_lowest, some_lowest}
 use Rattle.change_records.specs.Inner.Recorded.{idle, acting, Recorded}
 use Rattle.change_records.proofs.Keeping.{acting_append}
 use Rattle.operators.specs.Inner.Operator.{all_changes, Passes, NextTouched}
 
 -- What is passed over at v, by the word from v on.
 module _ (frame : Frame) (notes : List ℕ) (e v rest : ℕ) (r : rest ≡ set_from frame notes v e) where
-  pub passes-rest : rest ≡ 0 → Passes frame notes e v (8 - v % 8)
-  passes-rest z =
+  pub passes_rest : rest ≡ 0 → Passes frame notes e v (8 - v % 8)
+  passes_rest z =
       record {
         passed = λ clear u a b. none_from frame notes v e (sym r ∙ z) clear u a (omega (arith, a, b));
         most = omega arith;
         stopped = λ q. absurd (omega (arith, q));
       }
 
-  pub passes-one : rest % 4 ≡ 0 → Passes frame notes e v 1
-  passes-one z =
+  pub passes_one : rest % 4 ≡ 0 → Passes frame notes e v 1
+  passes_one z =
       record {
         passed = λ clear u a b.
             let same : u ≡ v = omega (arith, a, b) in
-            rw same (none-lowest frame notes v e (rw (← r) z) clear);
+            rw same (none_lowest frame notes v e (rw (← r) z) clear);
         most = omega arith;
         stopped = λ q. absurd (omega (arith, q));
       }
@@ -46,7 +46,7 @@ module _ (frame : Frame) (notes : List ℕ) (e v rest : ℕ) (r : rest ≡ set_f
       record {
         passed = λ clear u a b. absurd (omega (arith, a, b));
         most = omega arith;
-        stopped = λ _. some-lowest frame notes v e (λ q. z (rw r q));
+        stopped = λ _. some_lowest frame notes v e (λ q. z (rw r q));
       }
 
 -- The search for the next variable, at v: of those from one on none is named.
@@ -130,12 +130,12 @@ alike_trans : {m m' m'' : Build (List Changes)} → Alike m m' → Alike m' m'' 
 alike_trans x y = record { state = λ t. x.state t ∙ y.state t; rules = λ t. x.rules t ∙ y.rules t }
 
 module _ (frame : Frame) (formulas effects : List ℕ) (e : ℕ) where
-  one-passed :
+  one_passed :
       (v : ℕ)
       → ((clear : Bool) → Unnamed frame formulas effects clear v e)
       → Alike (all_changes frame formulas effects e (suc v)) (all_changes frame formulas effects e v)
   unfolding all_changes each bind give acting idle
-  one-passed v u =
+  one_passed v u =
       let all : St → Got (List Changes) = each v (changes_of (becoming frame) (effect_tree frame formulas effects e)) in
       let same = unnamed_changes frame formulas effects v e u in
       record {
@@ -147,32 +147,32 @@ module _ (frame : Frame) (formulas effects : List ℕ) (e : ℕ) where
       }
 
   -- no atom of the variables from v up to n is named
-  pub stretch-passed :
+  pub stretch_passed :
       (v n : ℕ)
       → v ≤ n
       → ((j : ℕ) → v ≤ j → j < n → (clear : Bool) → Unnamed frame formulas effects clear j e)
       → Alike (all_changes frame formulas effects e n) (all_changes frame formulas effects e v)
-  stretch-passed v zero h u =
+  stretch_passed v zero h u =
       let same : v ≡ 0 = omega arith in
       rw same (alike_refl (all_changes frame formulas effects e 0))
-  stretch-passed v (suc n) h u = go (dec_le v n) (λ b. stretch-passed v n b (λ j p q. u j p (omega arith)))
+  stretch_passed v (suc n) h u = go (dec_le v n) (λ b. stretch_passed v n b (λ j p q. u j p (omega arith)))
     where
       go :
           Dec (v ≤ n)
           → (v ≤ n → Alike (all_changes frame formulas effects e n) (all_changes frame formulas effects e v))
           → Alike (all_changes frame formulas effects e (suc n)) (all_changes frame formulas effects e v)
-      go (yes b) more = alike_trans (one-passed n (u n b (omega arith))) (more b)
+      go (yes b) more = alike_trans (one_passed n (u n b (omega arith))) (more b)
       go (no b) more =
           let same : v ≡ suc n = omega arith in
           rw same (alike_refl (all_changes frame formulas effects e (suc n)))
 
 -- What is reached and recorded after one of them is so after the other.
 module _ {m m' : Build (List Changes)} (a : Alike m m') where
-  pub reaches-alike :
+  pub reaches_alike :
       {frame : Frame} {formulas effects : List ℕ} {at : Size} {before after : Store} {scratch : List ℕ} {full : Bool} {next : Size}
       → Reaches m' frame formulas effects at before after scratch full next
       → Reaches m frame formulas effects at before after scratch full next
-  reaches-alike {at = at} {before = before} x =
+  reaches_alike {at = at} {before = before} x =
       let same = a.state (held at before) in
       record {
         done = λ q.
@@ -181,10 +181,10 @@ module _ {m m' : Build (List Changes)} (a : Alike m m') where
         over = λ q w. x.over q (rw same at w);
       }
 
-  pub recorded-alike :
+  pub recorded_alike :
       {from to : ℕ} {l n : List ℕ} (t : St)
       → Recorded (m' t).value from l n to
       → Recorded (m t).value from l n to
-  recorded-alike {from} {to} {n = n} t x =
+  recorded_alike {from} {to} {n = n} t x =
       let same = a.rules t in
       record { count = rw same x.count; there = λ h. rw same (x.there h); below = x.below; behind = x.behind }

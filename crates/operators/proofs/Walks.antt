@@ -10,7 +10,7 @@ use Rattle.normal_form.specs.Builder.{St, give, bind, each, plain}
 use Rattle.normal_form.proofs.ShapeSizes.{each_grows}
 use Rattle.normal_form.specs.Operators.{Changes, changes_of}
 use Rattle.normal_form.proofs.Growth.{steady_each}
-use Rattle.normal_form.proofs.Steady.{steady-changes}
+use Rattle.normal_form.proofs.Steady.{steady_changes}
 use Rattle.formula_builder.specs.declared.Frame.{Frame}
 use Rattle.formula_builder.specs.declared.Size.{Size}
 use Rattle.formula_builder.specs.declared.Step.{Step}
@@ -25,25 +25,25 @@ use Rattle.variable_changes.proofs.Standing.{stands_next, stands_at_next}
 use Rattle.atom_sets.specs.Inner.Sets.{InSet}
 use Rattle.variable_changes.specs.declared.Change.{Change}
 use Rattle.change_records.specs.Inner.Recorded.{Keeps, Opens, Recorded}
-use Rattle.change_records.proofs.Keeping.{recorded-none, recorded_few, recorded_more}
+use Rattle.change_records.proofs.Keeping.{recorded_none, recorded_few, recorded_more}
 use Rattle.operators.specs.declared.Tally.{Tally}
 use Rattle.operators.specs.Inner.Operator.{all_changes, operator_built, LooksOn, NextTouched, BuildsOperator, size_behind, Walked, OperatorWalked}
-use Rattle.operators.proofs.Passing.{stretch-passed, reaches-alike, recorded-alike}
+use Rattle.operators.proofs.Passing.{stretch_passed, reaches_alike, recorded_alike}
 
 -- One variable's change asks and leaves the same for a frame that is the same, as six numbers.
 module _ {f g : Frame} (same : f ≡ g) {formulas effects notes : List ℕ} {at : Size} {before : Store} {scratch : List ℕ} (v e : ℕ) where
-  pub change-asks :
+  pub change_asks :
       StandsAt g formulas effects notes at before scratch e × (v < g.variables)
       → StandsAt f formulas effects notes at before scratch e × (v < f.variables)
-  change-asks x = rw same x
+  change_asks x = rw same x
 
-  pub change-made :
+  pub change_made :
       {after : Store} {full : Bool} {next : Size} {x : Changes}
       → Makes (changes_of (becoming f) (effect_tree f formulas effects e) v) f formulas effects at before after scratch full next x
       × Leaves full f formulas effects notes next after
       → Makes (changes_of (becoming g) (effect_tree g formulas effects e) v) g formulas effects at before after scratch full next x
       × Leaves full g formulas effects notes next after
-  change-made x = rw (← same) x
+  change_made x = rw (← same) x
 
 -- nothing is built
 makes_give :
@@ -75,11 +75,11 @@ module _ (frame : Frame) (formulas effects : List ℕ) (e : ℕ) where
   changes_none a = (makes_give [] a).reaches
 
   -- none is recorded
-  none-recorded :
+  none_recorded :
       (at : Size) (s : Store) (from : ℕ) (l : List ℕ)
       → Recorded (all_changes frame formulas effects e 0 (held at s)).value from l l from
   unfolding all_changes each give
-  none-recorded at s from l = recorded-none from l
+  none_recorded at s from l = recorded_none from l
 
   module _ {at : Size} {before mid : Store} {s2 : List ℕ} {here : Size} (v : ℕ)
       (x : Reaches (all_changes frame formulas effects e v) frame formulas effects at before mid s2 false here) where
@@ -99,7 +99,7 @@ module _ (frame : Frame) (formulas effects : List ℕ) (e : ℕ) where
           over = λ q w. y.over q (rw same at w);
         })
 
-    more-recorded :
+    more_recorded :
         {after : Store} {s3 : List ℕ} {full : Bool} {next : Size} {from k to : ℕ} {l m n : List ℕ} (c : Change)
         → Recorded (all_changes frame formulas effects e v (held at before)).value from l m k
         → Makes (changes_of (becoming frame) (effect_tree frame formulas effects e) v) frame formulas effects here mid after s3 full next (made v c)
@@ -107,7 +107,7 @@ module _ (frame : Frame) (formulas effects : List ℕ) (e : ℕ) where
         → Recorded (made v c ∷ []) k m n to
         → Recorded (all_changes frame formulas effects e (v + 1) (held at before)).value from l n to
     unfolding all_changes each bind give
-    more-recorded {from = from} {to = to} {l = l} {n = n} c r y q z =
+    more_recorded {from = from} {to = to} {l = l} {n = n} c r y q z =
         let all = each v (changes_of (becoming frame) (effect_tree frame formulas effects e)) (held at before) in
         let step : St → Changes = λ t. (changes_of (becoming frame) (effect_tree frame formulas effects e) v t).value in
         let last : step all.st ≡ made v c = ap step (x.done refl).state ∙ y.value q in
@@ -115,30 +115,30 @@ module _ (frame : Frame) (formulas effects : List ℕ) (e : ℕ) where
         rw (add-one v) (as_recorded same (recorded_more r z))
 
   -- no room for a part is no room for all
-  changes-stop :
+  changes_stop :
       {at : Size} {before after : Store} {s2 : List ℕ} {next last : Size} (v n : ℕ)
       → v ≤ n
       → Reaches (all_changes frame formulas effects e v) frame formulas effects at before after s2 true next
       → Reaches (all_changes frame formulas effects e n) frame formulas effects at before after s2 true last
   unfolding all_changes
-  changes-stop {at} {before} v n h x =
+  changes_stop {at} {before} v n h x =
       record {
         done = λ q. absurd (true≢false q);
         over = λ q w.
             x.over refl
             (within_before
             (each_grows (changes_of (becoming frame) (effect_tree frame formulas effects e)) (held at before)
-            (λ k. steady-changes (becoming frame) (steady_becoming frame) (effect_tree frame formulas effects e) k) v n h)
+            (λ k. steady_changes (becoming frame) (steady_becoming frame) (effect_tree frame formulas effects e) k) v n h)
             w);
       }
 
-  all-walked :
+  all_walked :
       {at : Size} {before after : Store} {s2 : List ℕ} {from : ℕ} {l m : List ℕ} (r : Tally) (v n : ℕ)
       → v ≡ n
       → Reaches (all_changes frame formulas effects e v) frame formulas effects at before after s2 r.full (size_behind r)
       → Recorded (all_changes frame formulas effects e v (held at before)).value from l m r.records
       → Walked (all_changes frame formulas effects e n) frame formulas effects at before after s2 from l m r
-  all-walked r v n same x y = rw (sym same) (record { reaches = x; recorded = λ _. y })
+  all_walked r v n same x y = rw (sym same) (record { reaches = x; recorded = λ _. y })
 
 -- The loop's invariant: the changes of the variables below v are built and recorded.
 pub record Walking (frame : Frame) (formulas effects : List ℕ) (e : ℕ) (at : Size) (before mid : Store) (s2 : List ℕ) (from : ℕ) (l m : List ℕ) (here : Size) (k v : ℕ) : Type 0 where
@@ -178,26 +178,26 @@ module _ {frame : Frame} {formulas effects notes : List ℕ} {e : ℕ} {at : Siz
       → Walking frame formulas effects e at before mid s2 from l m here k next
   walking_on {v = v} {next = next} w noted n =
       let same =
-      stretch-passed frame formulas effects e v next n.above
+      stretch_passed frame formulas effects e v next n.above
       (λ j p q clear.
       noted.sets.alone formulas clear j e (omega (arith, q, n.below)) a.effect (n.passed clear j p q)) in
       record {
         below = n.below;
-        reaches = reaches-alike same w.reaches;
-        recorded = recorded-alike same (held at before) w.recorded;
+        reaches = reaches_alike same w.reaches;
+        recorded = recorded_alike same (held at before) w.recorded;
         few = omega (arith, w.few, n.above);
       }
 
-  pub walking-begins :
+  pub walking_begins :
       {from : ℕ} {l : List ℕ} {next : ℕ}
       → NextTouched frame notes e 0 next
       → Walking frame formulas effects e at before before s1 from l l at from next
-  walking-begins {from} {l} n =
+  walking_begins {from} {l} n =
       walking_on
       (record {
         below = omega arith;
         reaches = changes_none frame formulas effects e a.stands;
-        recorded = none-recorded frame formulas effects e at before from l;
+        recorded = none_recorded frame formulas effects e at before from l;
         few = omega arith;
       })
       a.noted n
@@ -205,17 +205,17 @@ module _ {frame : Frame} {formulas effects notes : List ℕ} {e : ℕ} {at : Siz
   module _ {mid : Store} {s2 : List ℕ} {from : ℕ} {l m : List ℕ} {here : Size} {k v : ℕ}
       (w : Walking frame formulas effects e at before mid s2 from l m here k v) where
     -- what the change of variable v asks, and what recording it asks
-    pub walking-asks :
+    pub walking_asks :
         {notes' : List ℕ}
         → Noted frame formulas effects notes' (held here mid)
         → length s2 ≡ length s1
         → v < frame.variables
         → StandsAt frame formulas effects notes' here mid s2 e × (v < frame.variables)
-    walking-asks noted long h =
+    walking_asks noted long h =
         (record { stands = stands_next a.stands w.reaches refl long; noted = noted; effect = a.effect }, h)
 
-    pub walking-keeps : Opens from l → length m ≡ length l → Keeps k m
-    walking-keeps o long =
+    pub walking_keeps : Opens from l → length m ≡ length l → Keeps k m
+    walking_keeps o long =
         record {
           room = omega (arith, o.room, long);
           limit = omega (arith, o.limit, w.few, w.below, a.stands.ready.variables);
@@ -234,7 +234,7 @@ module _ {frame : Frame} {formulas effects notes : List ℕ} {e : ℕ} {at : Siz
             record {
               reaches =
                   rw full
-                  (changes-stop frame formulas effects e (v + 1) frame.variables (omega arith)
+                  (changes_stop frame formulas effects e (v + 1) frame.variables (omega arith)
                   (rw q at (changes_more frame formulas effects e v w.reaches y.reaches)));
               recorded = λ z. absurd (true≢false (sym full ∙ z));
             }
@@ -251,28 +251,28 @@ module _ {frame : Frame} {formulas effects notes : List ℕ} {e : ℕ} {at : Siz
             (record {
               below = omega (arith, n.above, n.below);
               reaches = rw q at (changes_more frame formulas effects e v w.reaches y.reaches);
-              recorded = more-recorded frame formulas effects e v w.reaches c w.recorded y q z;
+              recorded = more_recorded frame formulas effects e v w.reaches c w.recorded y q z;
               few = omega (arith, recorded_few z, w.few);
             })
             noted n
 
-    pub walking-ends :
+    pub walking_ends :
         {r : Tally}
         → frame.variables ≤ v
         → r ≡ record { rows = here.rows; twins = here.twins; row = 0; records = k; full = false }
         → Walked (all_changes frame formulas effects e frame.variables) frame formulas effects at before mid s2 from l m r
-    walking-ends h is =
+    walking_ends h is =
         rw is
-        (all-walked frame formulas effects e _ v frame.variables (omega (arith, w.below)) w.reaches w.recorded)
+        (all_walked frame formulas effects e _ v frame.variables (omega (arith, w.below)) w.reaches w.recorded)
 
 -- The precondition, then all changes.
 module _ (frame : Frame) (formulas effects : List ℕ) (p e : ℕ) {at : Size} {before mid : Store} {s1 s2 : List ℕ} {f : Step}
     (x : Images (image_at frame formulas plain p) frame formulas at before mid s1 s2 f) where
-  precondition-over :
+  precondition_over :
       f.full ≡ true
       → Reaches (operator_built frame formulas effects p e) frame formulas effects at before mid s2 true (size_of f)
   unfolding operator_built all_changes bind
-  precondition-over q =
+  precondition_over q =
       let g = image_at frame formulas plain p (held at before) in
       record {
         done = λ z. absurd (true≢false z);
@@ -280,29 +280,29 @@ module _ (frame : Frame) (formulas effects : List ℕ) (p e : ℕ) {at : Size} {
             x.builds.over q
             (within_before
             ((steady_each frame.variables
-            (λ k. steady-changes (becoming frame) (steady_becoming frame) (effect_tree frame formulas effects e) k)).grow g.st)
+            (λ k. steady_changes (becoming frame) (steady_becoming frame) (effect_tree frame formulas effects e) k)).grow g.st)
             w);
       }
 
-  pub precondition-full :
+  pub precondition_full :
       {from : ℕ} {l m : List ℕ} {r : Tally}
       → f.full ≡ true
       → r ≡ record { rows = f.rows; twins = f.twins; row = 0; records = from; full = true }
       → OperatorWalked frame formulas effects p e at before mid s2 from l m r
-  precondition-full q same =
+  precondition_full q same =
       rw same
       (record {
-        walked = record { reaches = precondition-over q; recorded = λ z. absurd (true≢false z) };
+        walked = record { reaches = precondition_over q; recorded = λ z. absurd (true≢false z) };
         precondition = λ z. absurd (true≢false z);
       })
 
-  operator-done :
+  operator_done :
       {after : Store} {s3 : List ℕ} {full : Bool} {next : Size}
       → f.full ≡ false
       → Reaches (all_changes frame formulas effects e frame.variables) frame formulas effects (size_of f) mid after s3 full next
       → Reaches (operator_built frame formulas effects p e) frame formulas effects at before after s3 full next
   unfolding operator_built bind
-  operator-done q y =
+  operator_done q y =
       let step : St → St = λ t. (all_changes frame formulas effects e frame.variables t).st in
       let same = ap step (x.builds.done q).state in
       record {
@@ -328,23 +328,23 @@ stands_behind {frame} {formulas} {p = p} a x q long =
 module _ (frame : Frame) (formulas effects : List ℕ) (p e : ℕ) {at : Size} {before mid after : Store} {s1 s2 s3 : List ℕ} {f : Step} {from : ℕ}
     {l m : List ℕ} {w : Tally} (x : Images (image_at frame formulas plain p) frame formulas at before mid s1 s2 f) (q : f.full ≡ false)
     (y : Walked (all_changes frame formulas effects e frame.variables) frame formulas effects (size_of f) mid after s3 from l m w) where
-  value-is :
+  value_is :
       (operator_built frame formulas effects p e (held at before)).value
       ≡ (all_changes frame formulas effects e frame.variables (held (size_of f) mid)).value
   unfolding operator_built bind
-  value-is = ap (λ (t : St). (all_changes frame formulas effects e frame.variables t).value) (x.builds.done q).state
+  value_is = ap (λ (t : St). (all_changes frame formulas effects e frame.variables t).value) (x.builds.done q).state
 
-  pub operator-walked :
+  pub operator_walked :
       {r : Tally}
       → r ≡ record { rows = w.rows; twins = w.twins; row = f.row; records = w.records; full = w.full }
       → OperatorWalked frame formulas effects p e at before after s3 from l m r
-  operator-walked is =
+  operator_walked is =
       rw is
       (record {
         walked =
             record {
-              reaches = operator-done frame formulas effects p e x q y.reaches;
-              recorded = λ z. as_recorded value-is (y.recorded z);
+              reaches = operator_done frame formulas effects p e x q y.reaches;
+              recorded = λ z. as_recorded value_is (y.recorded z);
             };
         precondition = λ _. (x.builds.done q).value;
       })

@@ -14,29 +14,29 @@ use Rattle.plan.specs.Outcome.{sequence_kept, early_refusal, run_refusal}
 
 -- the ways out of `refused_run`
 module _ (l : Lent) (s numbers scratch : List ℕ) (n : ℕ) (early : n ≡ early_refusal l s scratch) where
-  pub run-refused-early : (n ≡ 0 → ⊥) → n ≡ run_refusal l s numbers scratch
+  pub run_refused_early : (n ≡ 0 → ⊥) → n ≡ run_refusal l s numbers scratch
   unfolding run_refusal
-  run-refused-early d = rw (← early) (first n (unless (sequence_kept numbers) 19 0) d)
+  run_refused_early d = rw (← early) (first n (unless (sequence_kept numbers) 19 0) d)
 
-  pub run-refused-long : n ≡ 0 → 65535 < length numbers → 19 ≡ run_refusal l s numbers scratch
+  pub run_refused_long : n ≡ 0 → 65535 < length numbers → 19 ≡ run_refusal l s numbers scratch
   unfolding run_refusal sequence_kept
-  run-refused-long e h = rw (← early, e, lt-leb (length numbers) 65535 h)
+  run_refused_long e h = rw (← early, e, lt-leb (length numbers) 65535 h)
 
-  pub run-not-refused : n ≡ 0 → length numbers ≤ 65535 → 0 ≡ run_refusal l s numbers scratch
+  pub run_not_refused : n ≡ 0 → length numbers ≤ 65535 → 0 ≡ run_refusal l s numbers scratch
   unfolding run_refusal sequence_kept
-  run-not-refused e h = rw (← early, e, le-leb (length numbers) 65535 h)
+  run_not_refused e h = rw (← early, e, le-leb (length numbers) 65535 h)
 
 module _ (l : Lent) (s numbers scratch : List ℕ) (passed : run_refusal l s numbers scratch ≡ 0) where
-  early-passed : early_refusal l s scratch ≡ 0
+  early_passed : early_refusal l s scratch ≡ 0
   unfolding run_refusal
-  early-passed = first_none (early_refusal l s scratch) (unless (sequence_kept numbers) 19 0) passed
+  early_passed = first_none (early_refusal l s scratch) (unless (sequence_kept numbers) 19 0) passed
 
-  pub run-ready : Ready l.head l.formulas l.effects l.operators s scratch
-  run-ready = ready l s scratch early-passed
+  pub run_ready : Ready l.head l.formulas l.effects l.operators s scratch
+  run_ready = ready l s scratch early_passed
 
-  pub short-enough : length numbers ≤ 65535
+  pub short_enough : length numbers ≤ 65535
   unfolding run_refusal sequence_kept
-  short-enough =
+  short_enough =
       leb-true (length numbers) 65535
       (unless_kept (sequence_kept numbers) 19 0 (omega arith)
       (rest_none (early_refusal l s scratch) (unless (sequence_kept numbers) 19 0) passed))

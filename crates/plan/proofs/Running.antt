@@ -41,8 +41,8 @@ module _ {h : Head} {t : Task} {s numbers : List ℕ} where
         g.rest
         ∙ ap (run_on t (record { state = now; steps = steps; cost = cost })) (drop-cons numbers steps 0 l)
 
-    pub after-ready : StateReady h after
-    after-ready = taken_ready taken g.state
+    pub after_ready : StateReady h after
+    after_ready = taken_ready taken g.state
 
     pub one_more : r.stop ≡ 0 → Goes h t s numbers (steps + 1) (cost + r.charge) after
     one_more e =
@@ -52,17 +52,17 @@ module _ {h : Head} {t : Task} {s numbers : List ℕ} where
               ∙ goes_on t (record { state = now; steps = steps; cost = cost }) (get_or numbers steps 0) (drop (suc steps) numbers)
               (sym (ap (λ (x : Taken). x.stop) taken.answer) ∙ e)
               ∙ rw (taken.answer, taken.state, add-one steps);
-          state = after-ready;
+          state = after_ready;
           costs = omega (arith, g.costs, taken.small);
         }
 
     module _ {goal : Bool} where
-      pub stopped-run :
+      pub stopped_run :
           (r.stop ≡ 0 → ⊥)
           → goal ≡ goal_holds t after
           → RunDone t s numbers (record { steps = steps; cost = cost; goal = goal; end = Stopped r.stop steps }) after
       unfolding run_answer end_of answer
-      stopped-run d told =
+      stopped_run d told =
           record {
             answer = rw (whole, told, same);
             state = same ∙ sym (ap (λ (x : Run). x.state) whole);
@@ -71,29 +71,29 @@ module _ {h : Head} {t : Task} {s numbers : List ℕ} where
           at : Progress
           at = record { state = now; steps = steps; cost = cost }
 
-          stop-same : r.stop ≡ (took t now (get_or numbers steps 0)).answer.stop
-          stop-same = ap (λ (x : Taken). x.stop) taken.answer
+          stop_same : r.stop ≡ (took t now (get_or numbers steps 0)).answer.stop
+          stop_same = ap (λ (x : Taken). x.stop) taken.answer
 
           ways :
               (run_on t at (get_or numbers steps 0 ∷ drop (suc steps) numbers)
               ≡ answer t at (stopped (took t now (get_or numbers steps 0)).answer.stop))
               × ((took t now (get_or numbers steps 0)).state ≡ now)
-          ways = stops t at (get_or numbers steps 0) (drop (suc steps) numbers) (λ z. d (stop-same ∙ z))
+          ways = stops t at (get_or numbers steps 0) (drop (suc steps) numbers) (λ z. d (stop_same ∙ z))
 
           same : after ≡ now
           same = taken.state ∙ ways.1
 
           whole : plain_run t s numbers ≡ answer t at (stopped r.stop)
-          whole = here ∙ ways.0 ∙ ap (λ (x : ℕ). answer t at (stopped x)) (sym stop-same)
+          whole = here ∙ ways.0 ∙ ap (λ (x : ℕ). answer t at (stopped x)) (sym stop_same)
 
-  pub ended-run :
+  pub ended_run :
       {steps cost : ℕ} {now : List ℕ} {goal : Bool}
       → Goes h t s numbers steps cost now
       → steps ≡ length numbers
       → goal ≡ goal_holds t now
       → RunDone t s numbers (record { steps = steps; cost = cost; goal = goal; end = Ended goal }) now
   unfolding run_answer end_of answer run_on
-  ended-run {steps} {cost} {now} g e told =
+  ended_run {steps} {cost} {now} g e told =
       record {
         answer = rw (whole, told);
         state = sym (ap (λ (x : Run). x.state) whole);

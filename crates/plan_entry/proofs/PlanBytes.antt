@@ -6,7 +6,7 @@ use mathlib.Core.List.{List, [], ◌∷◌}
 use lib.ListN.{length, get_or}
 use lib.Seq.{ext_get_or}
 use Rattle.task.specs.Words.{joined}
-use Rattle.task.proofs.Bounded.{getD-upto}
+use Rattle.task.proofs.Bounded.{getD_upto}
 use Rattle.file_format.specs.Bytes.{word_bytes}
 use Rattle.layouts.specs.Layout.{numbers_of}
 use Rattle.layouts.proofs.RunWays.{numbers_length}
@@ -30,7 +30,7 @@ high_byte (w ∷ rest) (suc i) h =
 
 number_at : (bytes : List ℕ) (i : ℕ) → i < length bytes / 2 → get_or (numbers_of bytes) i 0 ≡ get_or bytes (2 * i) 0 + 256 * get_or bytes (2 * i + 1) 0
 unfolding numbers_of
-number_at bytes i h = getD-upto (length bytes / 2) (λ (j : ℕ). get_or bytes (2 * j) 0 + 256 * get_or bytes (2 * j + 1) 0) i 0 h
+number_at bytes i h = getD_upto (length bytes / 2) (λ (j : ℕ). get_or bytes (2 * j) 0 + 256 * get_or bytes (2 * j + 1) 0) i 0 h
 
 pub numbers_of_words : (numbers : List ℕ) → numbers_of (joined word_bytes numbers) ≡ numbers
 numbers_of_words numbers = ext_get_or 0 (numbers_of bytes) numbers (numbers_length bytes ∙ half) same

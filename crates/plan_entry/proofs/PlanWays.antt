@@ -15,8 +15,8 @@ use Rattle.task.specs.Check.{refusal, unless}
 use Rattle.task.specs.Rules.{Checked}
 use Rattle.task.specs.Words.{joined, head_of, padded}
 use Rattle.task.proofs.Bounded.{and_left, and_right}
-use Rattle.task.proofs.Held.{length-initial}
-use Rattle.task.proofs.Kept.{kept-rules}
+use Rattle.task.proofs.Held.{length_initial}
+use Rattle.task.proofs.Kept.{kept_rules}
 use Rattle.task.proofs.Passed.{passed, counts_tested}
 use Rattle.file_format.specs.Bytes.{word_bytes}
 use Rattle.file_format.specs.Reading.{Lengths, Verdict, rejected, reading}
@@ -26,9 +26,9 @@ use Rattle.stepper.specs.Stepped.{first_of, step_scratch_kept}
 use Rattle.cheapest_plan.specs.declared.CheapestOutcome.{CheapestOutcome}
 use Rattle.cheapest_plan.specs.Cheapest.{Pick, no_plan, plan_of, cheapest}
 use Rattle.cheapest_plan.specs.Planned.{few_variables, search_scratch_kept, search_refusal, plan_refused, plan_written, plan_told, planned_by, planned, Planned, PlanGives}
-use Rattle.cheapest_plan.proofs.Cheapest.{plan-is-short}
+use Rattle.cheapest_plan.proofs.Cheapest.{plan_is_short}
 use Rattle.layouts.specs.Layout.{low_bytes}
-use Rattle.layouts.proofs.LayWays.{put-padded, size}
+use Rattle.layouts.proofs.LayWays.{put_padded, size}
 use Rattle.layouts.proofs.RunWays.{low_next}
 use Rattle.layouts.proofs.Sizes.{length_word_bytes}
 use Rattle.entry_tables.proofs.Reading.{ReadAs, same_reading}
@@ -37,14 +37,14 @@ use Rattle.plan_entry.specs.Inner.Giving.{FreePlan, PlanIn, small_plan, SmallPla
 
 -- the refusals before the search, in order
 module _ (h : Head) (r : ℕ) where
-  pub many-variables : 10 < h.variables → 21 ≡ plan_number h r
+  pub many_variables : 10 < h.variables → 21 ≡ plan_number h r
   unfolding plan_number few_variables
-  many-variables m = rw (lt-leb h.variables 10 m)
+  many_variables m = rw (lt-leb h.variables 10 m)
 
   module _ (few : h.variables ≤ 10) where
-    pub short-result : r < 12 → 20 ≡ plan_number h r
+    pub short_result : r < 12 → 20 ≡ plan_number h r
     unfolding plan_number few_variables
-    short-result s = rw (le-leb h.variables 10 few, lt-leb 12 r s)
+    short_result s = rw (le-leb h.variables 10 few, lt-leb 12 r s)
 
     pub none_refused : 12 ≤ r → 0 ≡ plan_number h r
     unfolding plan_number few_variables
@@ -129,7 +129,7 @@ module _ (numbers out result : List ℕ) (steps cost : ℕ) (inside : steps ≤ 
   unfolding plan_picked
   too_long h g = rw (lt-leb (2 * length plan) (length out) (omega (arith, whole))) g
 
-  pub gives-plan :
+  pub gives_plan :
       {z z' out' part result' : List ℕ} {a b c : ℕ}
       → steps ≤ length out / 2
       → 12 ≤ length result
@@ -140,7 +140,7 @@ module _ (numbers out result : List ℕ) (steps cost : ℕ) (inside : steps ≤ 
       → Put (low_bytes 8 cost) b c part result'
       → Given 0 out' result'
   unfolding plan_picked plan_laid plan_bytes
-  gives-plan {z} {z'} {out'} {part} {result'} {a} {b} {c} h room clear clear' p q s =
+  gives_plan {z} {z'} {out'} {part} {result'} {a} {b} {c} h room clear clear' p q s =
       let bytes : List ℕ = low_bytes 4 steps ++ low_bytes 8 cost in
       let both : Put bytes 0 c z' result' = put_then q s in
       let end : a ≡ 2 * steps = omega (arith, p.next, length_word_bytes plan, whole) in
@@ -149,14 +149,14 @@ module _ (numbers out result : List ℕ) (steps cost : ℕ) (inside : steps ≤ 
       rw (fits, whole)
       (record {
         told = refl;
-        written = put-padded (joined word_bytes plan) out clear p (omega (arith, size (joined word_bytes plan) out clear p));
-        held = put-padded bytes result clear' both (omega (arith, size bytes result clear' both));
+        written = put_padded (joined word_bytes plan) out clear p (omega (arith, size (joined word_bytes plan) out clear p));
+        held = put_padded bytes result clear' both (omega (arith, size bytes result clear' both));
       })
 
 -- the search's answer, where nothing refuses it before it begins
 module _ (l : Lent) (numbers scratch words : List ℕ) (r : ℕ) (i : PlanIn l numbers scratch words r) where
   checked : Checked (task_of l)
-  checked = (kept-rules l i.plan.kept).1
+  checked = (kept_rules l i.plan.kept).1
 
   not_refused : search_refusal l scratch words ≡ 0
   unfolding search_refusal few_variables search_scratch_kept step_scratch_kept
@@ -172,8 +172,8 @@ module _ (l : Lent) (numbers scratch words : List ℕ) (r : ℕ) (i : PlanIn l n
   -- a plan has at most 2^V - 1 steps, so there is room for it
   short : {p : List ℕ} {c : ℕ} → cheapest (task_of l) ≡ plan_of p c → length p ≤ 2 ^ l.head.variables - 1
   short {p} {c} e =
-      subst (λ (v : ℕ). length p ≤ 2 ^ v - 1) (length-initial l (kept-rules l i.plan.kept).0)
-      (plan-is-short (task_of l) checked e)
+      subst (λ (v : ℕ). length p ≤ 2 ^ v - 1) (length_initial l (kept_rules l i.plan.kept).0)
+      (plan_is_short (task_of l) checked e)
 
   module _ {o : CheapestOutcome} {numbers' scratch' words' : List ℕ} (g : PlanGives (planned l numbers scratch words) o numbers' scratch' words') where
     searched : planned l numbers scratch words ≡ plan_told (cheapest (task_of l)) numbers scratch words
@@ -212,12 +212,12 @@ module _ (l : Lent) (numbers scratch words : List ℕ) (r : ℕ) (i : PlanIn l n
               inside = omega (arith, steps, ap length left, length-append p (replicate (length numbers - length p) 0));
             }
 
-    pub found-plan :
+    pub found_plan :
         (m : ℕ) {n : ℕ} {out' result' : List ℕ}
         → Found
         → PlanEntryGives (plan_picked (plan_of (take o.steps numbers') o.cost) m r) n out' result'
         → PlanEntryGives (plan_picked (cheapest (task_of l)) m r) n out' result'
-    found-plan m f given = rw f.same given
+    found_plan m f given = rw f.same given
 
     -- a refusal: there is no plan
     pub not_found :
@@ -241,22 +241,22 @@ module _ (l : Lent) (numbers scratch words : List ℕ) (r : ℕ) (i : PlanIn l n
 -- by the refusals before the search
 number_of : (l : Lent) (r : ℕ) → refusal l ≡ 0 → plan_number (head_of (task_of l)) r ≡ plan_number l.head r
 unfolding plan_number few_variables head_of
-number_of l r kept = rw (length-initial l (kept-rules l kept).0)
+number_of l r kept = rw (length_initial l (kept_rules l kept).0)
 
 module _ (l : Lent) (o r : ℕ) (kept : refusal l ≡ 0) {number : ℕ} (told : number ≡ plan_number l.head r) {n : ℕ} {out' result' : List ℕ} where
-  pub plan-kept :
+  pub plan_kept :
       number ≡ 0
       → PlanEntryGives (plan_picked (cheapest (task_of l)) o r) n out' result'
       → PlanEntryGives (plan_given (plan_number (head_of (task_of l)) r) (task_of l) o r) n out' result'
   unfolding plan_given
-  plan-kept z g = rw (number_of l r kept ∙ sym told ∙ z) g
+  plan_kept z g = rw (number_of l r kept ∙ sym told ∙ z) g
 
-  pub plan-not-begun :
+  pub plan_not_begun :
       (number ≡ 0 → ⊥)
       → PlanEntryGives (nothing_planned number o r) n out' result'
       → PlanEntryGives (plan_given (plan_number (head_of (task_of l)) r) (task_of l) o r) n out' result'
   unfolding plan_given
-  plan-not-begun d g = rw (number_of l r kept ∙ sym told) (go number d g)
+  plan_not_begun d g = rw (number_of l r kept ∙ sym told) (go number d g)
     where
       go :
           (k : ℕ)

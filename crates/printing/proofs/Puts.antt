@@ -24,8 +24,8 @@ pub byte_counted : (l : List ℕ) (at b : ℕ) → length l ≤ at → Put l at 
 byte_counted l at b h = record { stored = sym (set_out l at b h); counted = refl; short = omega arith }
 
 module _ {before mid after x y : List ℕ} {at next last m k : ℕ} where
-  pub then-put : Put before at x m mid next → Put mid next y k after last → Put before at (x ++ y) (m + k) after last
-  then-put p q =
+  pub then_put : Put before at x m mid next → Put mid next y k after last → Put before at (x ++ y) (m + k) after last
+  then_put p q =
       record {
         stored =
             q.stored
@@ -46,16 +46,16 @@ module _ {before after text : List ℕ} {at next most : ℕ} where
       }
 
   -- .. and a bound of its own
-  pub put-short : {same : List ℕ} {more : ℕ} → Put before at text most after next → text ≡ same → length same ≤ more → Put before at same more after next
-  put-short p e h =
+  pub put_short : {same : List ℕ} {more : ℕ} → Put before at text most after next → text ≡ same → length same ≤ more → Put before at same more after next
+  put_short p e h =
       record { stored = p.stored ∙ ap (sets before at) e; counted = p.counted ∙ ap (λ (t : List ℕ). at + length t) e; short = h }
 
   -- into a buffer that is known otherwise
   pub put_on : {other : List ℕ} → before ≡ other → Put before at text most after next → Put other at text most after next
   put_on e p = rw e at p
 
-  pub put-length : Put before at text most after next → length after ≡ length before
-  put-length p = ap length p.stored ∙ length-sets before at text
+  pub put_length : Put before at text most after next → length after ≡ length before
+  put_length p = ap length p.stored ∙ length-sets before at text
 
 -- a loop that ends at its bound
 pub put_ends :

@@ -17,7 +17,7 @@ use Rattle.printing.specs.declared.PrintAnswer.TheVariants.{Printed, Refused}
 use Rattle.printing.specs.Lines.{lines}
 use Rattle.printing.specs.Printing.{PrintGives, not_printed, placed, printing}
 use Rattle.printing.specs.Inner.Put.{Put}
-use Rattle.printing.proofs.Puts.{put-length}
+use Rattle.printing.proofs.Puts.{put_length}
 
 -- Clearing from the front.
 pub zeros_length : (i : ℕ) (d : List ℕ) → i ≤ length d → length (replicate i 0 ++ drop i d) ≡ length d
@@ -57,11 +57,11 @@ drop_zeros (suc k) (suc n) =
     drop_zeros k n ∙ ap (λ (j : ℕ). replicate {A = ℕ} j 0) e
 
 module _ (text : List ℕ) (n : ℕ) where
-  pub placed-whole :
+  pub placed_whole :
       length text ≤ n
       → placed text n ≡ record { answer = Printed (length text); out = padded n text }
   unfolding placed
-  placed-whole h =
+  placed_whole h =
       ap
       (λ (b : Bool).
       cond b
@@ -69,9 +69,9 @@ module _ (text : List ℕ) (n : ℕ) where
       (not_printed 20 n))
       (le-leb (length text) n h)
 
-  placed-over : n < length text → placed text n ≡ not_printed 20 n
+  placed_over : n < length text → placed text n ≡ not_printed 20 n
   unfolding placed
-  placed-over h =
+  placed_over h =
       ap
       (λ (b : Bool).
       cond b
@@ -81,17 +81,17 @@ module _ (text : List ℕ) (n : ℕ) where
 
   module _ {most last : ℕ} {out : List ℕ} (p : Put (replicate n 0) 0 text most out last) where
     same_length : length out ≡ n
-    same_length = put-length p ∙ length-replicate n 0
+    same_length = put_length p ∙ length-replicate n 0
 
     whole : last ≡ length text
     whole = p.counted ∙ zero-add (length text)
 
-    pub settled-whole : last ≤ length out → PrintGives (placed text n) (Printed last) out
+    pub settled_whole : last ≤ length out → PrintGives (placed text n) (Printed last) out
     unfolding padded
-    settled-whole h =
+    settled_whole h =
         let fits : length text ≤ n = omega (arith, same_length, whole) in
         let zeros : length (replicate {A = ℕ} n 0) ≡ n = length-replicate n 0 in
-        rw (placed-whole fits)
+        rw (placed_whole fits)
         (record {
           answered = ap Printed whole;
           left =
@@ -101,11 +101,11 @@ module _ (text : List ℕ) (n : ℕ) where
               ∙ ap (λ (r : List ℕ). text ++ r) (drop_zeros (length text) n);
         })
 
-    pub settled-over : length out < last → {after : List ℕ} → after ≡ replicate (length out) 0 → PrintGives (placed text n) (Refused 20) after
+    pub settled_over : length out < last → {after : List ℕ} → after ≡ replicate (length out) 0 → PrintGives (placed text n) (Refused 20) after
     unfolding not_printed
-    settled-over h e =
+    settled_over h e =
         let over : n < length text = omega (arith, same_length, whole) in
-        rw (placed-over over)
+        rw (placed_over over)
         (record { answered = refl; left = e ∙ ap (λ (j : ℕ). replicate {A = ℕ} j 0) same_length })
 
 module _ (l : Lent) (n : ℕ) where
@@ -120,19 +120,19 @@ module _ (l : Lent) (n : ℕ) where
       ap (λ (b : Bool). cond b (placed (lines (task_of l)) n) (not_printed (refusal l) n)) (eq-eqb (refusal l) 0 e)
 
   module _ {out : List ℕ} where
-    pub printing-refused :
+    pub printing_refused :
         (number : ℕ)
         → number ≡ refusal l
         → (number ≡ 0 → ⊥)
         → out ≡ replicate n 0
         → PrintGives (printing l n) (Refused number) out
     unfolding not_printed
-    printing-refused number e h z =
+    printing_refused number e h z =
         rw (stopped (λ k. h (e ∙ k))) (record { answered = ap Refused e; left = z })
 
-    pub printing-passed :
+    pub printing_passed :
         (answer : PrintAnswer)
         → refusal l ≡ 0
         → PrintGives (placed (lines (task_of l)) n) answer out
         → PrintGives (printing l n) answer out
-    printing-passed answer e g = rw (passes e) g
+    printing_passed answer e g = rw (passes e) g

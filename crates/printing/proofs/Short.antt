@@ -176,9 +176,9 @@ table_short letter first words rows d k each =
     rw (length-map rows words) at short
 
 module _ (t : Task) (r : Checked t) where
-  head-short : length (head_line t) ≤ 29
+  head_short : length (head_line t) ≤ 29
   unfolding head_line
-  head-short =
+  head_short =
       let v = length t.initial in
       let w = length t.originals in
       let f = length t.formulas in
@@ -249,9 +249,9 @@ module _ (t : Task) (r : Checked t) where
         (omega (arith, r.limits.operators)) (omega (arith, rule.formula, r.limits.formulas)) (omega (arith, rule.changes, r.limits.effects))
         (omega (arith, costs i h)) (omega (arith, rule.percent)))
 
-    pub lines-short : length (lines t) ≤ 165408
+    pub lines_short : length (lines t) ≤ 165408
     unfolding lines
-    lines-short =
+    lines_short =
         let a = head_line t in
         let b = initial_line t.initial in
         let c = twin_lines t in
@@ -265,7 +265,7 @@ module _ (t : Task) (r : Checked t) where
           length-append c (d ++ (e ++ f)),
           length-append d (e ++ f),
           length-append e f,
-          head-short,
+          head_short,
           initial_line_length t.initial,
           twins_short,
           formulas_short,

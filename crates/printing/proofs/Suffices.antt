@@ -7,13 +7,13 @@ use Rattle.task.specs.Table.{Lent, operator_at, task_of}
 use Rattle.task.specs.Check.{refusal}
 use Rattle.task.specs.Words.{padded}
 use Rattle.task.specs.Rules.{no_operator}
-use Rattle.task.proofs.Held.{length-operators, operator-held}
-use Rattle.task.proofs.Kept.{kept-rules}
+use Rattle.task.proofs.Held.{length_operators, operator_held}
+use Rattle.task.proofs.Kept.{kept_rules}
 use Rattle.printing.specs.declared.PrintAnswer.TheVariants.{Printed}
 use Rattle.printing.specs.Lines.{lines, refusal_line}
 use Rattle.printing.specs.Printing.{printing, printing_refusal}
-use Rattle.printing.proofs.Settled.{placed-whole, passes}
-use Rattle.printing.proofs.Short.{lines-short, refusal_line_short}
+use Rattle.printing.proofs.Settled.{placed_whole, passes}
+use Rattle.printing.proofs.Short.{lines_short, refusal_line_short}
 
 -- the costs of the task that lent tables hold
 costs_held :
@@ -23,8 +23,8 @@ costs_held :
     → i < length (task_of l).operators
     → (get_or (task_of l).operators i no_operator).cost < 65536
 costs_held l costs i h =
-    let b : i < l.head.operators = rw (length-operators l) at h in
-    rw (operator-held l i b) (costs i b)
+    let b : i < l.head.operators = rw (length_operators l) at h in
+    rw (operator_held l i b) (costs i b)
 
 pub task_printed :
     (l : Lent) (n : ℕ)
@@ -34,8 +34,8 @@ pub task_printed :
     → let text = lines (task_of l) in
     printing l n ≡ record { answer = Printed (length text); out = padded n text }
 task_printed l n e costs h =
-    let short : length (lines (task_of l)) ≤ 165408 = lines-short (task_of l) (kept-rules l e).1 (costs_held l costs) in
-    passes l n e ∙ placed-whole (lines (task_of l)) n (omega arith)
+    let short : length (lines (task_of l)) ≤ 165408 = lines_short (task_of l) (kept_rules l e).1 (costs_held l costs) in
+    passes l n e ∙ placed_whole (lines (task_of l)) n (omega arith)
 
 pub refusal_printed :
     (number n : ℕ)
@@ -46,4 +46,4 @@ pub refusal_printed :
 unfolding printing_refusal
 refusal_printed number n b h =
     let short : length (refusal_line number) ≤ 8 = refusal_line_short number b in
-    placed-whole (refusal_line number) n (omega arith)
+    placed_whole (refusal_line number) n (omega arith)

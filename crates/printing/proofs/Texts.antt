@@ -12,15 +12,15 @@ use Rattle.task.specs.Bounded.{upto}
 use Rattle.task.specs.Table.{Lent, row_at, operator_at, task_of}
 use Rattle.task.specs.Rules.{LongEnough}
 use Rattle.task.specs.Words.{joined, row_words, operator_row_words}
-use Rattle.task.proofs.Bounded.{length-upto}
-use Rattle.task.proofs.Held.{length-initial, length-originals, length-formulas, length-effects, length-operators}
+use Rattle.task.proofs.Bounded.{length_upto}
+use Rattle.task.proofs.Held.{length_initial, length_originals, length_formulas, length_effects, length_operators}
 use Rattle.task.specs.declared.Table.TheVariants.{Formulas, Effects, Operators}
 use Rattle.task.specs.declared.Table.{Table}
 use Rattle.task.specs.declared.TableRow.{TableRow}
 use Rattle.task.specs.Inner.Tables.{words_at, listed}
 use Rattle.printing.specs.Lines.{newline, blank, digit, word, line, numbered, values, initial_line, head_line, twin_lines, lines}
 use Rattle.printing.specs.Inner.Put.{Put, counts_of, listed_at, original_at, front_text, tables_text}
-use Rattle.printing.proofs.Puts.{nothing_put, then-put, put_as}
+use Rattle.printing.proofs.Puts.{nothing_put, then_put, put_as}
 
 -- Lines of one and two numbers, and of a row.
 pub words_three : (a b c : ℕ) → (word a ++ word b) ++ word c ≡ joined word (a ∷ b ∷ c ∷ [])
@@ -101,7 +101,7 @@ numbered_more letter first i f =
     sym
     (ap (λ (n : ℕ). numbered letter first (upto n f)) (add-one i)
     ∙ numbered_append letter first (upto i f) (f i ∷ [])
-    ∙ ap (λ (n : ℕ). numbered letter first (upto i f) ++ (line letter ((first + n) ∷ f i) ++ [])) (length-upto i f)
+    ∙ ap (λ (n : ℕ). numbered letter first (upto i f) ++ (line letter ((first + n) ∷ f i) ++ [])) (length_upto i f)
     ∙ ap (λ (r : List ℕ). numbered letter first (upto i f) ++ r) (append-nil (line letter ((first + i) ∷ f i))))
 
 -- a loop over rows: none yet, and one more
@@ -117,7 +117,7 @@ pub rows_more :
     → m + k ≤ more
     → Put before at (numbered letter first (upto (i + 1) f)) more after last
 rows_more letter first n i f p q e h =
-    put_as (then-put p q)
+    put_as (then_put p q)
     (ap (λ (j : ℕ). numbered letter first (upto i f) ++ line letter (j ∷ f i)) e ∙ numbered_more letter first i f) h
 
 -- the line of a row, by its words
@@ -179,28 +179,28 @@ tables_joined h formulas effects operators =
     (numbered 111 0 (upto h.operators (listed_at Operators operators)))
 
 module _ (l : Lent) (long : LongEnough l) where
-  head-held : line 116 (counts_of l.head) ≡ head_line (task_of l)
+  head_held : line 116 (counts_of l.head) ≡ head_line (task_of l)
   unfolding head_line task_of
-  head-held =
+  head_held =
       let e : head_line (task_of l) ≡ line 116 (counts_of l.head) =
       λ j.
       line 116
-      (length-initial l long j
-      ∷ length-originals l long j
-      ∷ length-formulas l j
-      ∷ length-effects l j
-      ∷ length-operators l j
+      (length_initial l long j
+      ∷ length_originals l long j
+      ∷ length_formulas l j
+      ∷ length_effects l j
+      ∷ length_operators l j
       ∷ l.head.goal
       ∷ [])
       in
       sym e
 
-  twins-held :
+  twins_held :
       numbered 119 (l.head.variables - l.head.twins) (upto l.head.twins (original_at l.twins)) ≡ twin_lines (task_of l)
   unfolding twin_lines task_of
-  twins-held =
+  twins_held =
       ap₂ (λ (n : ℕ) (rows : List (List ℕ)). numbered 119 n rows)
-      (sym (ap₂ ◌-◌ (length-initial l long) (length-originals l long)))
+      (sym (ap₂ ◌-◌ (length_initial l long) (length_originals l long)))
       (sym (map_take (λ (o : ℕ). o ∷ []) l.twins l.head.twins long.twins))
 
   parts_held :
@@ -212,17 +212,17 @@ module _ (l : Lent) (long : LongEnough l) where
   unfolding lines tables_text task_of
   parts_held =
       λ j.
-      head-held j
+      head_held j
       ++ (initial_line (take l.head.variables l.initial)
-      ++ (twins-held j
+      ++ (twins_held j
       ++ (formulas_text 102 l.formulas l.head.formulas j
       ++ (formulas_text 101 l.effects l.head.effects j ++ operators_text 111 l.operators l.head.operators j))))
 
-  pub lines-of-lent :
+  pub lines_of_lent :
       front_text l.head l.initial l.twins ++ tables_text l.head l.formulas l.effects l.operators
       ≡ lines (task_of l)
   unfolding front_text
-  lines-of-lent =
+  lines_of_lent =
       let first = line 116 (counts_of l.head) in
       let second = initial_line (take l.head.variables l.initial) in
       let third = numbered 119 (l.head.variables - l.head.twins) (upto l.head.twins (original_at l.twins)) in

@@ -5,7 +5,7 @@ use mathlib.Core.Path.{◌≡◌, ap, ◌∙◌, subst}
 use mathlib.Core.List.{List}
 use lib.ListN.{replicate}
 use Rattle.task.specs.Table.{Lent, task_of}
-use Rattle.task.proofs.Kept.{kept-rules}
+use Rattle.task.proofs.Kept.{kept_rules}
 use Rattle.task.proofs.Passed.{passed, counts_tested}
 use Rattle.file_format.specs.Reading.{Lengths, Verdict, rejected, reading}
 use Rattle.entry_tables.proofs.Reading.{ReadAs, same_reading}
@@ -25,7 +25,7 @@ pub lay_in : {m : Lengths} {file : List ℕ} {l : Lent} → ReadAs m file l → 
 lay_in {m} {file} {l} t =
     let c = (counts_tested l.head).0 (passed l t.kept).counts in
     record {
-      long = (kept-rules l t.kept).0;
+      long = (kept_rules l t.kept).0;
       variables = c.variables;
       twins = omega (arith, c.twins, c.variables);
       formulas = c.formulas;

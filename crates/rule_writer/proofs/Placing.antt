@@ -39,9 +39,9 @@ module _ (places : List ℕ) (v past : ℕ) (space : v ≤ length places) where
           let e : u ≡ i = omega arith in
           rw e (get_or-set_same now i past 0 (omega (arith, c.same)))
 
-  pub cleared-all :
+  pub cleared_all :
       (now : List ℕ) (i : ℕ) → Cleared places v past now i → v ≤ i → AllPast v past now × (drop v now ≡ drop v places)
-  cleared-all now i c h = (λ u l. c.all u (omega arith), c.behind)
+  cleared_all now i c h = (λ u l. c.all u (omega arith), c.behind)
 
 -- The twins from k on have their places.
 pub record Numbered (originals places : List ℕ) (v w : ℕ) (now : List ℕ) (k : ℕ) : Type 0 where
@@ -57,8 +57,8 @@ module _ (originals places : List ℕ) (v w : ℕ) (ready : PlacesReady original
   long : length (take w originals) ≡ w
   long = length-take-le w originals ready.twins
 
-  none-past : drop w (take w originals) ≡ []
-  none-past = ap (λ (k : ℕ). drop k (take w originals)) (sym long) ∙ drop-length (take w originals)
+  none_past : drop w (take w originals) ≡ []
+  none_past = ap (λ (k : ℕ). drop k (take w originals)) (sym long) ∙ drop-length (take w originals)
 
   pub numbered_none : AllPast v w places → Numbered originals places v w places w
   unfolding place
@@ -66,7 +66,7 @@ module _ (originals places : List ℕ) (v w : ℕ) (ready : PlacesReady original
       record {
         bound = omega arith;
         same = refl;
-        at = λ u h. rw none-past (omega (arith, cleared u h));
+        at = λ u h. rw none_past (omega (arith, cleared u h));
         behind = refl;
       }
 
@@ -108,11 +108,11 @@ module _ (originals places : List ℕ) (v w : ℕ) (ready : PlacesReady original
       go u l false e =
           get_or-set_other now original u j 0 (λ p. eqb-false original u e (sym p)) ∙ omega (arith, c.at u l)
 
-  pub numbered-all :
+  pub numbered_all :
       (now : List ℕ) (k : ℕ)
       → Numbered originals places v w now k
       → k ≤ 0
       → Placed v w (take w originals) now × (drop v now ≡ drop v places)
-  numbered-all now k c h =
+  numbered_all now k c h =
       let e : k ≡ 0 = omega arith in
       (record { many = long; at = λ u b. (rw e at (c.at u b)) ∙ omega arith }, c.behind)

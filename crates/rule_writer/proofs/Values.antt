@@ -63,47 +63,47 @@ module _ (source originals out : List ℕ) (v w : ℕ) (ready : InitialReady sou
   abbrev values : List ℕ
   values = twin_values (take v source) (take w originals)
 
-  pub values-long : length values ≡ w
+  pub values_long : length values ≡ w
   unfolding twin_values
-  values-long =
+  values_long =
       length-map (take w originals) (λ x. 1 - get_or (take v source) x 0) ∙ length-take-le w originals ready.twins
 
-  pub value-at : (k : ℕ) → k < w → get_or values k 0 ≡ 1 - get_or source (get_or originals k 0) 0
+  pub value_at : (k : ℕ) → k < w → get_or values k 0 ≡ 1 - get_or source (get_or originals k 0) 0
   unfolding twin_values
-  value-at k h =
+  value_at k h =
       map_at (λ x. 1 - get_or (take v source) x 0) (take w originals) k (omega (arith, length-take-le w originals ready.twins))
       ∙ rw (get_or-take w originals k 0 h, get_or-take v source (get_or originals k 0) 0 (ready.below k h))
 
-  pub opposed-none : Opposed source originals out v w out 0
-  opposed-none = record { bound = omega arith; same = refl; opposite = paste-zero out v values }
+  pub opposed_none : Opposed source originals out v w out 0
+  opposed_none = record { bound = omega arith; same = refl; opposite = paste-zero out v values }
 
-  pub opposed-more :
+  pub opposed_more :
       (now : List ℕ) (k : ℕ)
       → Opposed source originals out v w now k
       → k < w
       → Opposed source originals out v w (set now (v + k) (1 - get_or source (get_or originals k 0) 0)) (k + 1)
-  opposed-more now k c h =
+  opposed_more now k c h =
       record {
         bound = omega arith;
         same = length-set now (v + k) (1 - get_or source (get_or originals k 0) 0) ∙ c.same;
         opposite =
-            rw (add-one k, ← value-at k h)
+            rw (add-one k, ← value_at k h)
             (ap (λ (l : List ℕ). set l (v + k) (get_or values k 0)) c.opposite
-            ∙ paste-suc out v values k 0 (omega (arith, ready.space)) (omega (arith, values-long)));
+            ∙ paste-suc out v values k 0 (omega (arith, ready.space)) (omega (arith, values_long)));
       }
 
-  pub opposed-all : (now : List ℕ) (k : ℕ) → Opposed source originals out v w now k → w ≤ k → now ≡ paste out v values w
-  opposed-all now k c h =
+  pub opposed_all : (now : List ℕ) (k : ℕ) → Opposed source originals out v w now k → w ≤ k → now ≡ paste out v values w
+  opposed_all now k c h =
       let e : k ≡ w = omega (arith, c.bound) in
       c.opposite ∙ rw e
 
   -- both parts
-  pub values-written :
+  pub values_written :
       (mid after : List ℕ)
       → mid ≡ take v source ++ drop v out
       → after ≡ paste mid v values w
       → after ≡ (take v source ++ values) ++ drop (v + w) out
-  values-written mid after e f =
+  values_written mid after e f =
       let long = length-take-le v source ready.values in
       let front : take v mid ≡ take v source = ap (take v) e ∙ take_at (take v source) (drop v out) v long in
       let past : drop (v + w) mid ≡ drop (v + w) out =
@@ -111,4 +111,4 @@ module _ (source originals out : List ℕ) (v w : ℕ) (ready : InitialReady sou
       ∙ ap (λ (n : ℕ). drop (n + w) (take v source ++ drop v out)) (sym long)
       ∙ drop-append-add (take v source) (drop v out) w
       ∙ drop-drop w v out in
-      f ∙ rw (front, past, take_all w values (omega (arith, values-long)))
+      f ∙ rw (front, past, take_all w values (omega (arith, values_long)))

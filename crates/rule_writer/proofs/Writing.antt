@@ -17,7 +17,7 @@ use Rattle.normal_form.specs.Assembly.{Rule, rule, with_twin, rules_of, rules, W
 use Rattle.normal_form.proofs.Growth.{longer}
 use Rattle.task.proofs.Stores.{padded_row}
 use Rattle.task.specs.Inner.Stored.{three}
-use Rattle.normal_form.proofs.ShapeCounts.{first-length, next-length, rules_split}
+use Rattle.normal_form.proofs.ShapeCounts.{first_length, next_length, rules_split}
 use Rattle.normal_form.proofs.ShapeRules.{rules_snoc}
 use Rattle.normal_form.proofs.ShapeWritten.{rules_prefix}
 use Rattle.rule_writer.specs.declared.Chain.{Chain}
@@ -32,14 +32,14 @@ filled at = record { rows = at.rows; stands = at.stands; full = true }
 
 -- Done, over, or full from before.
 module _ {rs : List Rule} {room : ℕ} {at : Chain} {before : List ℕ} where
-  writes-done :
+  writes_done :
       {after : List ℕ} {r : Chain}
       → at.full ≡ false
       → r.full ≡ false
       → Ready room r after
       → ((w : Written) → Holds w at before → Holds (write_rules w rs) r after)
       → Writes rs room at before after r
-  writes-done e f ready holds =
+  writes_done e f ready holds =
       record {
         ready = ready;
         stays = λ t. absurd (true≢false (sym t ∙ e));
@@ -47,11 +47,11 @@ module _ {rs : List Rule} {room : ℕ} {at : Chain} {before : List ℕ} where
         over = λ w h _ t _. true≢false (sym t ∙ f);
       }
 
-  writes-over :
+  writes_over :
       Ready room at before
       → ((w : Written) → Holds w at before → length (write_rules w rs).rows ≤ room → ⊥)
       → Writes rs room at before before (filled at)
-  writes-over ready large =
+  writes_over ready large =
       record {
         ready = record { within = ready.within; space = ready.space; limit = ready.limit };
         stays = λ _. refl;
@@ -59,8 +59,8 @@ module _ {rs : List Rule} {room : ℕ} {at : Chain} {before : List ℕ} where
         over = λ w h _ _ few. large w h few;
       }
 
-  pub writes-filled : Ready room at before → at.full ≡ true → Writes rs room at before before at
-  writes-filled ready e =
+  pub writes_filled : Ready room at before → at.full ≡ true → Writes rs room at before before at
+  writes_filled ready e =
       record {
         ready = ready;
         stays = λ t. t;
@@ -149,26 +149,26 @@ module _ (r : CodeRule) where
   abbrev the_rule : Rule
   the_rule = record { condition = r.condition; atom = atom_of r.sets r.variable }
 
-  atom-words : (s : Bool) (v : ℕ) → atom_row (atom_of s v) ≡ record { kind = kind_of s; a = v; b = 0 }
+  atom_words : (s : Bool) (v : ℕ) → atom_row (atom_of s v) ≡ record { kind = kind_of s; a = v; b = 0 }
   unfolding atom_row
-  atom-words true v = refl
-  atom-words false v = refl
+  atom_words true v = refl
+  atom_words false v = refl
 
-  conjunct-stored :
+  conjunct_stored :
       (t : List ℕ) (n : ℕ) (rows : List Row) (i : ℕ)
       → t ≡ padded n (words_of rows)
       → length rows ≡ i
       → 3 * i + 6 ≤ n
       → two_rows t i r ≡ padded n (words_of (rows ++ rule_rows i the_rule))
   unfolding rule_rows
-  conjunct-stored t n rows i e l h =
+  conjunct_stored t n rows i e l h =
       let atom : Row = record { kind = kind_of r.sets; a = r.variable; b = 0 } in
       let under : Row = record { kind = 4; a = r.condition; b = i } in
       let one = stored t n rows i atom e l (omega arith) in
       stored (three t i (kind_of r.sets) r.variable 0) n (rows ++ (atom ∷ [])) (i + 1) under one
       (omega (arith, length-append rows (atom ∷ []))) (omega arith)
       ∙ ap (λ (x : List Row). padded n (words_of x)) (append_assoc rows (atom ∷ []) (under ∷ []))
-      ∙ ap (λ (x : Row). padded n (words_of (rows ++ (x ∷ under ∷ [])))) (sym (atom-words r.sets r.variable))
+      ∙ ap (λ (x : Row). padded n (words_of (rows ++ (x ∷ under ∷ [])))) (sym (atom_words r.sets r.variable))
 
 two_long : (i : ℕ) (r : Rule) → length (rule_rows i r) ≡ 2
 unfolding rule_rows
@@ -201,13 +201,13 @@ module _ (room : ℕ) (at : Chain) (t : List ℕ) (r : CodeRule) where
   length_two : length (two_rows t at.rows r) ≡ length t
   length_two = simp length-set
 
-  pub first-full : First room at t → room < at.rows + 2 → Writes (alone r) room at t t (filled at)
-  first-full f h =
-      writes-over f.ready (λ w hold few.
+  pub first_full : First room at t → room < at.rows + 2 → Writes (alone r) room at t t (filled at)
+  first_full f h =
+      writes_over f.ready (λ w hold few.
       omega (
         arith,
         ap (λ (x : Written). length x.rows) (one_rule w (the_rule r)),
-        first-length w (the_rule r) (hold.stands ∙ f.none),
+        first_length w (the_rule r) (hold.stands ∙ f.none),
         hold.rows,
       ))
 
@@ -217,7 +217,7 @@ module _ (room : ℕ) (at : Chain) (t : List ℕ) (r : CodeRule) where
       → Writes (alone r) room at t (two_rows t at.rows r)
       (record { rows = at.rows + 2; stands = at.rows + 1; full = false })
   first_done f h =
-      writes-done f.unfilled refl
+      writes_done f.unfilled refl
       (record { within = h; space = omega (arith, length_two, f.ready.space); limit = f.ready.limit }) holds
     where
       holds :
@@ -234,33 +234,33 @@ module _ (room : ℕ) (at : Chain) (t : List ℕ) (r : CodeRule) where
                 ∙ omega (arith, hold.rows, two_long at.rows (the_rule r));
             stands = refl;
             words =
-                conjunct-stored r t (length t) w.rows at.rows hold.words hold.rows (omega (arith, f.ready.space))
+                conjunct_stored r t (length t) w.rows at.rows hold.words hold.rows (omega (arith, f.ready.space))
                 ∙ ap (λ (k : ℕ). padded k (words_of rows)) (sym length_two);
           })
 
   abbrev joined_rows : List ℕ
   joined_rows = three (two_rows t at.rows r) (at.rows + 2) 3 at.stands (at.rows + 1)
 
-  length-joined : length joined_rows ≡ length t
-  length-joined = simp length-set
+  length_joined : length joined_rows ≡ length t
+  length_joined = simp length-set
 
-  pub next-full : Next room at t → room < at.rows + 3 → Writes (alone r) room at t t (filled at)
-  next-full f h =
-      writes-over f.ready (λ w hold few.
+  pub next_full : Next room at t → room < at.rows + 3 → Writes (alone r) room at t t (filled at)
+  next_full f h =
+      writes_over f.ready (λ w hold few.
       omega (
         arith,
         ap (λ (x : Written). length x.rows) (one_rule w (the_rule r)),
-        next-length w (the_rule r) (λ e. f.some (sym hold.stands ∙ e)),
+        next_length w (the_rule r) (λ e. f.some (sym hold.stands ∙ e)),
         hold.rows,
       ))
 
-  pub next-done :
+  pub next_done :
       Next room at t
       → at.rows + 3 ≤ room
       → Writes (alone r) room at t joined_rows (record { rows = at.rows + 3; stands = at.rows + 2; full = false })
-  next-done f h =
-      writes-done f.unfilled refl
-      (record { within = h; space = omega (arith, length-joined, f.ready.space); limit = f.ready.limit }) holds
+  next_done f h =
+      writes_done f.unfilled refl
+      (record { within = h; space = omega (arith, length_joined, f.ready.space); limit = f.ready.limit }) holds
     where
       holds :
           (w : Written)
@@ -287,29 +287,29 @@ module _ (room : ℕ) (at : Chain) (t : List ℕ) (r : CodeRule) where
             stands = refl;
             words =
                 stored (two_rows t at.rows r) (length t) two (at.rows + 2) join
-                (conjunct-stored r t (length t) w.rows at.rows hold.words hold.rows (omega arith)) long
+                (conjunct_stored r t (length t) w.rows at.rows hold.words hold.rows (omega arith)) long
                 (omega arith)
-                ∙ ap (λ (k : ℕ). padded k (words_of (two ++ (join ∷ [])))) (sym length-joined);
+                ∙ ap (λ (k : ℕ). padded k (words_of (two ++ (join ∷ [])))) (sym length_joined);
           })
 
 -- none for a condition that is row 0
 module _ (r : CodeRule) where
-  pub rule-absent : r.condition ≡ 0 → rule_in r ≡ []
+  pub rule_absent : r.condition ≡ 0 → rule_in r ≡ []
   unfolding rule
-  rule-absent e = rw (eq-eqb r.condition 0 e)
+  rule_absent e = rw (eq-eqb r.condition 0 e)
 
-  pub rule-there : (r.condition ≡ 0 → ⊥) → rule_in r ≡ alone r
+  pub rule_there : (r.condition ≡ 0 → ⊥) → rule_in r ≡ alone r
   unfolding rule
-  rule-there n = rw (ne_eqb r.condition 0 n)
+  rule_there n = rw (ne_eqb r.condition 0 n)
 
 -- none for an absent twin
 module _ (frame : Frame) (k : ℕ) (r : CodeRule) where
-  pub twin-absent : frame.twins ≤ k → twin_rule_in frame k r ≡ []
-  twin-absent h = rw (le-ltb k frame.twins h)
+  pub twin_absent : frame.twins ≤ k → twin_rule_in frame k r ≡ []
+  twin_absent h = rw (le-ltb k frame.twins h)
 
-  pub twin-there :
+  pub twin_there :
       k < frame.twins → twin_rule_in frame k r ≡ rule r.condition (atom_of (not r.sets) (frame.variables + k))
-  twin-there h = rw (lt-ltb k frame.twins h)
+  twin_there h = rw (lt-ltb k frame.twins h)
 
 -- all rules of one variable, if its twin is at place k
 changes_written :
@@ -347,9 +347,9 @@ writes_placed frame c {twins} {places} p h x =
 
 -- An operator's variables, one after another: v's rules behind those of the variables before it; none if it is neither set nor cleared.
 module _ (n : ℕ) (twins : List ℕ) (cs : List Changes) (c : Changes) {room : ℕ} {at a : Chain} {before mid : List ℕ} where
-  pub writes-variable :
+  pub writes_variable :
       {r : Chain} {after : List ℕ}
       → Writes (rules n twins cs) room at before mid a
       → Writes (rules_of n twins c) room a mid after r
       → Writes (rules n twins (cs ++ (c ∷ []))) room at before after r
-  writes-variable x y = writes_as (rules_snoc n twins cs c) (writes_both x y)
+  writes_variable x y = writes_as (rules_snoc n twins cs c) (writes_both x y)

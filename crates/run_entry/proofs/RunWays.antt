@@ -12,8 +12,8 @@ use Rattle.task.specs.Table.{Lent, Task, task_of}
 use Rattle.task.specs.Check.{refusal}
 use Rattle.task.specs.Run.{applicable, Progress, after_step, Run, Stop, ended, stopped, answer, run_on, unstopped, is_plan, plain_run}
 use Rattle.task.proofs.Bounded.{and_left, and_right}
-use Rattle.task.proofs.Held.{length-initial}
-use Rattle.task.proofs.Kept.{kept-rules}
+use Rattle.task.proofs.Held.{length_initial}
+use Rattle.task.proofs.Kept.{kept_rules}
 use Rattle.task.proofs.Passed.{passed, counts_tested}
 use Rattle.file_format.specs.Reading.{Lengths, Verdict, accepted, rejected, reading}
 use Rattle.plan.specs.declared.outcome.RunOutcome.{RunOutcome}
@@ -114,7 +114,7 @@ run_free l s q numbers scratch n decoded {s'} {rest} {result} {o} {r} i whole g 
 
 -- the number of a task in tables that pass
 number_of : (l : Lent) (s q : List ℕ) (n : ℕ) → refusal l ≡ 0 → run_number (length (task_of l).initial) s q n ≡ run_number l.head.variables s q n
-number_of l s q n e = rw (length-initial l (kept-rules l e).0)
+number_of l s q n e = rw (length_initial l (kept_rules l e).0)
 
 pub run_kept :
     (l : Lent) (s q : List ℕ) (n : ℕ) {number r : ℕ} {s' result : List ℕ}
@@ -183,9 +183,9 @@ module _ (m : Lengths) (file s q : List ℕ) (n : ℕ) {r : ℕ} {s' result : Li
       g
 
   -- .. and after 5 the state is as it was: nothing ran
-  pub not-run : r ≡ 5 → s' ≡ s
+  pub not_run : r ≡ 5 → s' ≡ s
   unfolding run_entry_by run_given
-  not-run five = go (reading m file) refl
+  not_run five = go (reading m file) refl
     where
       by_number : (t : Task) (k : ℕ) → RunEntryGives (run_given k t s q n) r s' result → s' ≡ s
       by_number t zero h =

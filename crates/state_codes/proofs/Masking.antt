@@ -19,8 +19,8 @@ use Rattle.task.specs.Table.{Row, row_at, EffectKind, empty_kind, set_kind, clea
 use Rattle.task.specs.Tree.{formula_of, effect_node, effect_of}
 use Rattle.task.specs.Inner.Rows.{EffectKept, EffectsDown}
 use Rattle.task.specs.Inner.Values.{bit, Values}
-use Rattle.task.proofs.Bounded.{length-upto, getD-upto}
-use Rattle.task.proofs.Trees.{effect-unfolds}
+use Rattle.task.proofs.Bounded.{length_upto, getD_upto}
+use Rattle.task.proofs.Trees.{effect_unfolds}
 use Rattle.state_codes.specs.Inner.Masks.{atom_at, Masked, kind_mask, row_mask, RowMasks, Maskable, RowMaskable}
 use Rattle.state_codes.proofs.Bits.{or_bit, power_bit, power_bits}
 
@@ -55,25 +55,25 @@ module _ {words values masks : List ℕ} {i : ℕ} (ready : RowMaskable words i 
   empty_row k = rw k
 
   -- an atom's variable
-  pub set-ref : (row_at words i).kind ≡ 1 → (row_at words i).a < 10
+  pub set_ref : (row_at words i).kind ≡ 1 → (row_at words i).a < 10
   unfolding effect_kind
-  set-ref k = omega (arith, rw k at ready.rule, ready.few)
+  set_ref k = omega (arith, rw k at ready.rule, ready.few)
 
   pub set_row : (row_at words i).kind ≡ 1 → 1 * 2 ^ (row_at words i).a % 4294967296 ≡ row_mask values masks (row_at words i)
   unfolding row_mask kind_mask effect_kind
-  set_row k = rw k (set_shifted (row_at words i).a (omega (arith, set-ref k)))
+  set_row k = rw k (set_shifted (row_at words i).a (omega (arith, set_ref k)))
 
-  pub clear-ref : (row_at words i).kind ≡ 2 → (row_at words i).a < 10
+  pub clear_ref : (row_at words i).kind ≡ 2 → (row_at words i).a < 10
   unfolding effect_kind
-  clear-ref k = omega (arith, rw k at ready.rule, ready.few)
+  clear_ref k = omega (arith, rw k at ready.rule, ready.few)
 
   pub clear_row : (row_at words i).kind ≡ 2 → 65536 * 2 ^ (row_at words i).a % 4294967296 ≡ row_mask values masks (row_at words i)
   unfolding row_mask kind_mask effect_kind
-  clear_row k = rw k (clear_shifted (row_at words i).a (omega (arith, clear-ref k)))
+  clear_row k = rw k (clear_shifted (row_at words i).a (omega (arith, clear_ref k)))
 
-  pub both-refs : (row_at words i).kind ≡ 3 → ((row_at words i).a < i) × ((row_at words i).b < i)
+  pub both_refs : (row_at words i).kind ≡ 3 → ((row_at words i).a < i) × ((row_at words i).b < i)
   unfolding effect_kind
-  both-refs k = rw k at ready.rule
+  both_refs k = rw k at ready.rule
 
   pub both_row :
       (row_at words i).kind ≡ 3
@@ -83,17 +83,17 @@ module _ {words values masks : List ℕ} {i : ℕ} (ready : RowMaskable words i 
 
   -- any other kind is "under"
   module _ (d0 : (row_at words i).kind ≡ 0 → ⊥) (d1 : (row_at words i).kind ≡ 1 → ⊥) (d2 : (row_at words i).kind ≡ 2 → ⊥) (d3 : (row_at words i).kind ≡ 3 → ⊥) where
-    pub under-refs : ((row_at words i).kind ≡ 4) × ((row_at words i).a < ready.f) × ((row_at words i).b < i)
-    under-refs =
+    pub under_refs : ((row_at words i).kind ≡ 4) × ((row_at words i).a < ready.f) × ((row_at words i).b < i)
+    under_refs =
         rule_under ready.v ready.f i (row_at words i).kind (row_at words i).a (row_at words i).b ready.rule d0 d1 d2 d3
 
-    pub under-false : get_or values (row_at words i).a 0 ≡ 0 → 0 ≡ row_mask values masks (row_at words i)
+    pub under_false : get_or values (row_at words i).a 0 ≡ 0 → 0 ≡ row_mask values masks (row_at words i)
     unfolding row_mask kind_mask effect_kind
-    under-false e = rw (under-refs.0, eq-eqb (get_or values (row_at words i).a 0) 0 e)
+    under_false e = rw (under_refs.0, eq-eqb (get_or values (row_at words i).a 0) 0 e)
 
-    pub under-true : (get_or values (row_at words i).a 0 ≡ 0 → ⊥) → get_or masks (row_at words i).b 0 ≡ row_mask values masks (row_at words i)
+    pub under_true : (get_or values (row_at words i).a 0 ≡ 0 → ⊥) → get_or masks (row_at words i).b 0 ≡ row_mask values masks (row_at words i)
     unfolding row_mask kind_mask effect_kind
-    under-true e = rw (under-refs.0, ne_eqb (get_or values (row_at words i).a 0) 0 e)
+    under_true e = rw (under_refs.0, ne_eqb (get_or values (row_at words i).a 0) 0 e)
 
 -- A row looks only at words of lower rows.
 kind_same :
@@ -128,8 +128,8 @@ pub masking_begin : (words values masks : List ℕ) (n : ℕ) → Masking words 
 masking_begin words values masks n = record { same = refl; inside = omega arith; known = record { at = λ j h. absurd (omega arith) } }
 
 module _ {words values before masks : List ℕ} {n i : ℕ} (ready : Maskable words n values before) (more : i < n) (m : Masking words values before n i masks) where
-  pub row-ready : RowMaskable words i values masks
-  row-ready =
+  pub row_ready : RowMaskable words i values masks
+  row_ready =
       record {
         v = ready.v;
         f = ready.f;
@@ -140,8 +140,8 @@ module _ {words values before masks : List ℕ} {n i : ℕ} (ready : Maskable wo
         room = omega (arith, ready.room, m.same);
       }
 
-  pub masking-more : {x : ℕ} → x ≡ row_mask values masks (row_at words i) → Masking words values before n (i + 1) (set masks i x)
-  masking-more {x} e =
+  pub masking_more : {x : ℕ} → x ≡ row_mask values masks (row_at words i) → Masking words values before n (i + 1) (set masks i x)
+  masking_more {x} e =
       record {
         same = length-set masks i x ∙ m.same;
         inside = omega arith;

@@ -19,8 +19,8 @@ use Rattle.task.specs.Table.{Row, row_at, EffectKind, empty_kind, set_kind, clea
 use Rattle.task.specs.Tree.{formula_of, effect_node, effect_of}
 use Rattle.task.specs.Inner.Rows.{EffectKept, EffectsDown}
 use Rattle.task.specs.Inner.Values.{bit, Values}
-use Rattle.task.proofs.Bounded.{length-upto, getD-upto}
-use Rattle.task.proofs.Trees.{effect-unfolds}
+use Rattle.task.proofs.Bounded.{length_upto, getD_upto}
+use Rattle.task.proofs.Trees.{effect_unfolds}
 use Rattle.state_codes.specs.Inner.Masks.{atom_at, Masked, next_code, kind_mask, row_mask, RowMasks, Maskable}
 use Rattle.state_codes.specs.Inner.States.{state_of}
 use Rattle.state_codes.proofs.Bits.{or_bit, and_bit, xor_bit, power_bit, power_bits, high_bit, low_bit, state_at}
@@ -59,13 +59,13 @@ zero_bit k = omega (arith, shr_le 0 k)
 
 -- The words by kind, in state s of v variables.
 module _ (v : ℕ) (s : List ℕ) (few : v ≤ 10) where
-  empty-masked : Masked v s empty 0
+  empty_masked : Masked v s empty 0
   unfolding effcond bit
-  empty-masked = record { bit_at = zero_bit; below = pow_pos v }
+  empty_masked = record { bit_at = zero_bit; below = pow_pos v }
 
-  set-masked : (a : ℕ) → a < v → Masked v s (atomic (sets a)) (2 ^ a)
+  set_masked : (a : ℕ) → a < v → Masked v s (atomic (sets a)) (2 ^ a)
   unfolding effcond bit
-  set-masked a h =
+  set_masked a h =
       let l : 2 ^ a < 2 ^ v = pow-lt h in
       record { bit_at = λ k. go k (dec_lt k 16) (ℕ_discrete k a); below = omega arith }
     where
@@ -74,9 +74,9 @@ module _ (v : ℕ) (s : List ℕ) (few : v ≤ 10) where
       go k (yes l) (no q) = rw (set_atom k l, ne_eqb k a q) (power_bits a k q)
       go k (no l) d = rw (high_atom k (omega arith)) (power_bits a k (λ q. omega arith))
 
-  clear-masked : (a : ℕ) → a < v → Masked v s (atomic (clears a)) (2 ^ (16 + a))
+  clear_masked : (a : ℕ) → a < v → Masked v s (atomic (clears a)) (2 ^ (16 + a))
   unfolding effcond bit
-  clear-masked a h =
+  clear_masked a h =
       let e : 2 ^ (16 + a) ≡ 65536 * 2 ^ a = pow-add 2 16 a in
       let p : 0 < 2 ^ v = pow_pos v in
       record { bit_at = λ k. go k (dec_lt k 16) (ℕ_discrete k (16 + a)); below = omega arith }
@@ -86,9 +86,9 @@ module _ (v : ℕ) (s : List ℕ) (few : v ≤ 10) where
       go k (no l) (yes q) = rw (high_atom k (omega arith), eq-eqb (k - 16) a (omega arith), q) (power_bit (16 + a))
       go k (no l) (no q) = rw (high_atom k (omega arith), ne_eqb (k - 16) a (λ z. q (omega arith))) (power_bits (16 + a) k q)
 
-  both-masked : {e f : Effect} {x y : ℕ} → Masked v s e x → Masked v s f y → Masked v s (both e f) (bit_or x y)
+  both_masked : {e f : Effect} {x y : ℕ} → Masked v s e x → Masked v s f y → Masked v s (both e f) (bit_or x y)
   unfolding effcond
-  both-masked {e} {f} {x} {y} m n =
+  both_masked {e} {f} {x} {y} m n =
       record {
         bit_at = λ k.
             or_bit x y k
@@ -97,9 +97,9 @@ module _ (v : ℕ) (s : List ℕ) (few : v ≤ 10) where
         below = rw (or_mod x y 16) (or_lt v (x % 65536) (y % 65536) m.below n.below);
       }
 
-  under-masked : {p : Formula} {e : Effect} {x b : ℕ} → b ≡ bit (holds s p) → Masked v s e x → Masked v s (under p e) (cond (eqb b 0) 0 x)
+  under_masked : {p : Formula} {e : Effect} {x b : ℕ} → b ≡ bit (holds s p) → Masked v s e x → Masked v s (under p e) (cond (eqb b 0) 0 x)
   unfolding effcond bit
-  under-masked {p} {e} {x} {b} q m = rw q (go (holds s p) refl)
+  under_masked {p} {e} {x} {b} q m = rw q (go (holds s p) refl)
     where
       go : (t : Bool) → holds s p ≡ t → Masked v s (under p e) (cond (eqb (bit t) 0) 0 x)
       go true h =
@@ -108,7 +108,7 @@ module _ (v : ℕ) (s : List ℕ) (few : v ≤ 10) where
           record { bit_at = λ k. zero_bit k ∙ ap (λ (t : Bool). bit (t && effcond s (atom_at k) e)) (sym h); below = pow_pos v }
 
   -- a row, from the words of the rows that it names
-  node-masked :
+  node_masked :
       (f i : ℕ) (k : EffectKind) (a b : ℕ) (p : Formula) {e g : Effect} (values masks : List ℕ)
       → EffectRule v f i k a b
       → (a < f → get_or values a 0 ≡ bit (holds s p))
@@ -116,12 +116,12 @@ module _ (v : ℕ) (s : List ℕ) (few : v ≤ 10) where
       → (b < i → Masked v s g (get_or masks b 0))
       → Masked v s (effect_node k a p e g) (kind_mask values masks k a b)
   unfolding effect_node kind_mask
-  node-masked f i empty_kind a b p values masks r formula left right = empty-masked
-  node-masked f i set_kind a b p values masks r formula left right = set-masked a r.0
-  node-masked f i clear_kind a b p values masks r formula left right = clear-masked a r.0
-  node-masked f i both_kind a b p values masks r formula left right = both-masked (left r.0) (right r.1)
-  node-masked f i under_kind a b p values masks r formula left right = under-masked (formula r.0) (right r.1)
-  node-masked f i unknown_effect a b p values masks r formula left right = absurd r
+  node_masked f i empty_kind a b p values masks r formula left right = empty_masked
+  node_masked f i set_kind a b p values masks r formula left right = set_masked a r.0
+  node_masked f i clear_kind a b p values masks r formula left right = clear_masked a r.0
+  node_masked f i both_kind a b p values masks r formula left right = both_masked (left r.0) (right r.1)
+  node_masked f i under_kind a b p values masks r formula left right = under_masked (formula r.0) (right r.1)
+  node_masked f i unknown_effect a b p values masks r formula left right = absurd r
 
 -- All rows of a table, where the values of the formulas in s are known.
 module _
@@ -132,28 +132,28 @@ module _
     (m : RowMasks words e values masks)
   where
     row_is : (i : ℕ) → i < e → get_or (upto e (row_at words)) i no_row ≡ row_at words i
-    row_is i h = getD-upto e (row_at words) i no_row h
+    row_is i h = getD_upto e (row_at words) i no_row h
 
     down : EffectsDown v f (upto e (row_at words))
-    down = record { row = λ i h. let l : i < e = rw (length-upto e (row_at words)) at h in rw (row_is i l) (rule i l) }
+    down = record { row = λ i h. let l : i < e = rw (length_upto e (row_at words)) at h in rw (row_is i l) (rule i l) }
 
-    masked-within : (fuel i : ℕ) → i < fuel → i < e → Masked v s (effect_of formulas (upto e (row_at words)) i) (get_or masks i 0)
+    masked_within : (fuel i : ℕ) → i < fuel → i < e → Masked v s (effect_of formulas (upto e (row_at words)) i) (get_or masks i 0)
     unfolding row_mask
-    masked-within zero i h l = absurd (omega arith)
-    masked-within (suc fuel) i h l =
+    masked_within zero i h l = absurd (omega arith)
+    masked_within (suc fuel) i h l =
         rw (
-          effect-unfolds v f formulas (upto e (row_at words)) down i (rw (length-upto e (row_at words)) l),
+          effect_unfolds v f formulas (upto e (row_at words)) down i (rw (length_upto e (row_at words)) l),
           row_is i l,
           m.at i l,
         )
-        (node-masked v s few f i (effect_kind (row_at words i).kind) (row_at words i).a (row_at words i).b
+        (node_masked v s few f i (effect_kind (row_at words i).kind) (row_at words i).a (row_at words i).b
         (formula_of formulas (row_at words i).a) values masks (rule i l)
         (λ b. known.at (row_at words i).a b)
-        (λ b. masked-within fuel (row_at words i).a (omega arith) (omega arith))
-        (λ b. masked-within fuel (row_at words i).b (omega arith) (omega arith)))
+        (λ b. masked_within fuel (row_at words i).a (omega arith) (omega arith))
+        (λ b. masked_within fuel (row_at words i).b (omega arith) (omega arith)))
 
-    pub row-masked : (i : ℕ) → i < e → Masked v s (effect_of formulas (upto e (row_at words)) i) (get_or masks i 0)
-    row-masked i h = masked-within (suc i) i (omega arith) h
+    pub row_masked : (i : ℕ) → i < e → Masked v s (effect_of formulas (upto e (row_at words)) i) (get_or masks i 0)
+    row_masked i h = masked_within (suc i) i (omega arith) h
 
 -- one bit of the next code, of a bit of the code, and whether it is set and cleared
 next_bit : (x : ℕ) (p q : Bool) → x ≤ 1 → max (differ x (min x (bit q))) (bit p) ≡ cond p 1 (cond q 0 x)
@@ -170,9 +170,9 @@ next_bit (suc (suc x)) p q h = absurd (omega arith)
 
 -- THE next code: it is below 2^v, and its state is the one after the effect.
 module _ {v c m : ℕ} {e : Effect} (few : v ≤ 10) (low : c < 2 ^ v) (k : Masked v (state_of v c) e m) where
-  pub next-below : next_code c m < 2 ^ v
+  pub next_below : next_code c m < 2 ^ v
   unfolding next_code
-  next-below =
+  next_below =
       or_lt v (bit_xor c (bit_and c (m / 65536))) (m % 65536)
       (xor_lt v c (bit_and c (m / 65536)) low (omega (arith, and_le_l c (m / 65536))))
       k.below
@@ -193,14 +193,14 @@ module _ {v c m : ℕ} {e : Effect} (few : v ≤ 10) (low : c < 2 ^ v) (k : Mask
           and_bit c (m / 65536) i
           ∙ ap (λ (x : ℕ). min (c / 2 ^ i % 2) x) (high_bit m i ∙ k.bit_at (16 + i) ∙ rw (clear_atom i))
 
-  pub next-state : state_of v (next_code c m) ≡ apply (state_of v c) e
+  pub next_state : state_of v (next_code c m) ≡ apply (state_of v c) e
   unfolding apply
-  next-state =
+  next_state =
       let n = (state_bits v c).size in
       ext_get_or 0 (state_of v (next_code c m)) (upto (length (state_of v c)) (value_after (state_of v c) e))
-      ((state_bits v (next_code c m)).size ∙ sym n ∙ sym (length-upto (length (state_of v c)) (value_after (state_of v c) e)))
+      ((state_bits v (next_code c m)).size ∙ sym n ∙ sym (length_upto (length (state_of v c)) (value_after (state_of v c) e)))
       (λ i l.
       let h : i < v = omega (arith, (state_bits v (next_code c m)).size) in
       state_at v (next_code c m) i h
       ∙ bit_after i h
-      ∙ sym (getD-upto (length (state_of v c)) (value_after (state_of v c) e) i 0 (omega arith)))
+      ∙ sym (getD_upto (length (state_of v c)) (value_after (state_of v c) e) i 0 (omega arith)))

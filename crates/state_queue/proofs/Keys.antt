@@ -50,14 +50,14 @@ key_front {n} before after same s h = rw (same s (omega arith), same (n + s) (om
 
 -- a node is stored
 module _ (words : List ℕ) (n node x : ℕ) where
-  pub stored-front : (j : ℕ) → j < 3 * n → get_or (set words (3 * n + node) x) j 0 ≡ get_or words j 0
-  stored-front j h = get_or-set_other words (3 * n + node) j x 0 (λ z. omega arith)
+  pub stored_front : (j : ℕ) → j < 3 * n → get_or (set words (3 * n + node) x) j 0 ≡ get_or words j 0
+  stored_front j h = get_or-set_other words (3 * n + node) j x 0 (λ z. omega arith)
 
-  pub stored-key : (s : ℕ) → s < n → key (set words (3 * n + node) x) n s ≡ key words n s
-  stored-key s h = key_front words (set words (3 * n + node) x) stored-front s h
+  pub stored_key : (s : ℕ) → s < n → key (set words (3 * n + node) x) n s ≡ key words n s
+  stored_key s h = key_front words (set words (3 * n + node) x) stored_front s h
 
-  pub stored-node : node < n → 3 * n + node < length words → winner (set words (3 * n + node) x) n node ≡ x
-  stored-node h room =
+  pub stored_node : node < n → 3 * n + node < length words → winner (set words (3 * n + node) x) n node ≡ x
+  stored_node h room =
       sym (winner_node (set words (3 * n + node) x) n node h) ∙ get_or-set_same words (3 * n + node) x 0 room
 
   pub stored_other : (i : ℕ) → (i ≡ node → ⊥) → winner (set words (3 * n + node) x) n i ≡ winner words n i

@@ -6,8 +6,8 @@ use mathlib.Core.Logic.{◌⊎◌, inl, inr}
 use mathlib.Core.List.{List}
 use lib.ListN.{set}
 use Rattle.state_queue.specs.Inner.Queue.{key, winner, Plays, Roomy, Siblings, right_of, left_of, Waits, Played}
-use Rattle.state_queue.proofs.Keys.{winner_state, stored-key, stored-node}
-use Rattle.state_queue.proofs.Playing.{Playing, Chosen, from_left, from_right, child, set-playing, all_played, Away, away_begin, away_child, away_more, away_end}
+use Rattle.state_queue.proofs.Keys.{winner_state, stored_key, stored_node}
+use Rattle.state_queue.proofs.Playing.{Playing, Chosen, from_left, from_right, child, set_playing, all_played, Away, away_begin, away_child, away_more, away_end}
 
 -- The loop's invariant: all play but the nodes over the one reached, which names `first`, of this key.
 pub record Lowering (n : ℕ) (before words : List ℕ) (first first_key node : ℕ) : Type 0 where
@@ -90,19 +90,19 @@ chosen_beside {node = node} {x = x} {y} words (left_of b e f) p q l = chosen_lef
 
 -- a node above which there is another
 module _ {n first first_key node : ℕ} {before words : List ℕ} (w : Lowering n before words first first_key node) (more : 1 < node) where
-  above-child : (c : ℕ) → node / 2 < c → c < 2 * n → Plays n (winner words n) (key words n) c
-  above-child c l b = child w.playing (omega arith) (omega (arith, w.bottom)) (λ c l b. away_child l) c l b
+  above_child : (c : ℕ) → node / 2 < c → c < 2 * n → Plays n (winner words n) (key words n) c
+  above_child c l b = child w.playing (omega arith) (omega (arith, w.bottom)) (λ c l b. away_child l) c l b
 
-  lowering-first : first < n
-  lowering-first =
-      let p = above-child node (omega arith) w.bottom in
+  lowering_first : first < n
+  lowering_first =
+      let p = above_child node (omega arith) w.bottom in
       omega (arith, w.names, p.state)
 
   -- the other state, and the one of the two that is named above
   module _ {beside other : ℕ} (s : Siblings node beside) (q : other ≡ winner words n beside) where
-    pub lowering-other : other < n
-    lowering-other =
-        let p = above-child beside (beside_below s more) (beside_bottom n s w.bottom) in
+    pub lowering_other : other < n
+    lowering_other =
+        let p = above_child beside (beside_below s more) (beside_bottom n s w.bottom) in
         omega (arith, q, p.state)
 
     stored :
@@ -117,16 +117,16 @@ module _ {n first first_key node : ℕ} {before words : List ℕ} (w : Lowering 
         record {
           some = omega arith;
           bottom = omega (arith, w.bottom);
-          names = sym (stored-node words n (node / 2) x inner (omega (arith, r.room)));
-          its_key = e ∙ sym (stored-key words n (node / 2) x x there);
-          playing = set-playing w.playing (omega arith) inner (λ c l b. away_child l) r c refl away_more;
+          names = sym (stored_node words n (node / 2) x inner (omega (arith, r.room)));
+          its_key = e ∙ sym (stored_key words n (node / 2) x x there);
+          playing = set_playing w.playing (omega arith) inner (λ c l b. away_child l) r c refl away_more;
         }
 
     -- the state that comes first and its key, by whether the other comes before
     module _ {other_key x k : ℕ} {A B : Type 0} (before-it : A → other_key < first_key) (not-before : B → first_key ≤ other_key) where
       pub lowering-named : (A × (x ≡ other) × (k ≡ other_key)) ⊎ (B × (x ≡ first) × (k ≡ first_key)) → x < n
-      lowering-named (inl c) = rw c.1 lowering-other
-      lowering-named (inr c) = rw c.1 lowering-first
+      lowering-named (inl c) = rw c.1 lowering_other
+      lowering-named (inr c) = rw c.1 lowering_first
 
       pub lowering-on :
           Roomy n words
@@ -135,10 +135,10 @@ module _ {n first first_key node : ℕ} {before words : List ℕ} (w : Lowering 
           → Lowering n before (set words (3 * n + node / 2) x) x k (node / 2)
       lowering-on r e (inl c) =
           let l = before-it c.0 in
-          rw (c.1, c.2) (stored r lowering-other e (chosen_beside words s w.names q (omega (arith, w.its_key, e, l))))
+          rw (c.1, c.2) (stored r lowering_other e (chosen_beside words s w.names q (omega (arith, w.its_key, e, l))))
       lowering-on r e (inr c) =
           let l = not-before c.0 in
-          rw (c.1, c.2) (stored r lowering-first w.its_key (chosen words s w.names q (omega (arith, w.its_key, e, l))))
+          rw (c.1, c.2) (stored r lowering_first w.its_key (chosen words s w.names q (omega (arith, w.its_key, e, l))))
 
 -- at the root
 pub lowered : {n first first_key node : ℕ} {before words : List ℕ} → Lowering n before words first first_key node → node ≤ 1 → Played n before words

@@ -10,8 +10,8 @@ use lib.Dec.{ltb}
 use lib.ListN.{length, get_or, set, length-set}
 use borrow.Author.Tests.{ltb-true, ltb-false}
 use Rattle.state_queue.specs.Inner.Queue.{key, winner, better, Over, itself, parent, Plays, Roomy, Queue, Sets, Waits, NearlyPlays, Nearly, Played}
-use Rattle.state_queue.proofs.Keys.{winner_state, better_other, better_first, key_front, stored-front, stored-key, stored-node, stored_other}
-use Rattle.state_queue.proofs.Tournament.{over_falls, over_parent, over_trans, state_plays, left-plays, right-plays, plays_on}
+use Rattle.state_queue.proofs.Keys.{winner_state, better_other, better_first, key_front, stored_front, stored_key, stored_node, stored_other}
+use Rattle.state_queue.proofs.Tournament.{over_falls, over_parent, over_trans, state_plays, left_plays, right_plays, plays_on}
 
 -- The nodes for which this holds play, and the words of the states are as they were.
 pub record Playing (n : ℕ) (before words : List ℕ) (holds : ℕ → Type 0) : Type 0 where
@@ -66,59 +66,59 @@ module _ {n i : ℕ} {before words : List ℕ} {holds : ℕ → Type 0} (p : Pla
   right : Plays n (winner words n) (key words n) (2 * i + 1)
   right = child (2 * i + 1) (omega arith) (omega arith)
 
-  pub may-be-set : Sets words n i
-  may-be-set = record { some = some; inner = inner; left = left.state; right = right.state }
+  pub may_be_set : Sets words n i
+  may_be_set = record { some = some; inner = inner; left = left.state; right = right.state }
 
   -- It is set to the state of a child that comes no later than the other's.
   module _ (r : Roomy n words) {after : List ℕ} {x : ℕ} (chosen : Chosen words n i x) (e : after ≡ set words (3 * n + i) x) where
-    keeps-key : (s : ℕ) → s < n → key after n s ≡ key words n s
-    keeps-key s h = rw e (stored-key words n i x s h)
+    keeps_key : (s : ℕ) → s < n → key after n s ≡ key words n s
+    keeps_key s h = rw e (stored_key words n i x s h)
 
-    keeps-node : (c : ℕ) → (c ≡ i → ⊥) → winner after n c ≡ winner words n c
-    keeps-node c ne = rw e (stored_other words n i x c ne)
+    keeps_node : (c : ℕ) → (c ≡ i → ⊥) → winner after n c ≡ winner words n c
+    keeps_node c ne = rw e (stored_other words n i x c ne)
 
     names : winner after n i ≡ x
-    names = rw e (stored-node words n i x inner (omega (arith, r.room)))
+    names = rw e (stored_node words n i x inner (omega (arith, r.room)))
 
     other : (c : ℕ) → (c ≡ i → ⊥) → Plays n (winner words n) (key words n) c → Plays n (winner after n) (key after n) c
-    other c ne q = plays_on (keeps-node c ne) (λ s h o. keeps-key s h) q
+    other c ne q = plays_on (keeps_node c ne) (λ s h o. keeps_key s h) q
 
-    now-left : Plays n (winner after n) (key after n) (2 * i)
-    now-left = other (2 * i) (λ z. omega arith) left
+    now_left : Plays n (winner after n) (key after n) (2 * i)
+    now_left = other (2 * i) (λ z. omega arith) left
 
-    now-right : Plays n (winner after n) (key after n) (2 * i + 1)
-    now-right = other (2 * i + 1) (λ z. omega arith) right
+    now_right : Plays n (winner after n) (key after n) (2 * i + 1)
+    now_right = other (2 * i + 1) (λ z. omega arith) right
 
-    set-plays : Plays n (winner after n) (key after n) i
-    set-plays = go chosen
+    set_plays : Plays n (winner after n) (key after n) i
+    set_plays = go chosen
       where
         at_left : winner after n (2 * i) ≡ winner words n (2 * i)
-        at_left = keeps-node (2 * i) (λ z. omega arith)
+        at_left = keeps_node (2 * i) (λ z. omega arith)
 
         at_right : winner after n (2 * i + 1) ≡ winner words n (2 * i + 1)
-        at_right = keeps-node (2 * i + 1) (λ z. omega arith)
+        at_right = keeps_node (2 * i + 1) (λ z. omega arith)
 
         left_key : key after n (winner after n (2 * i)) ≡ key words n (winner words n (2 * i))
-        left_key = rw at_left (keeps-key (winner words n (2 * i)) left.state)
+        left_key = rw at_left (keeps_key (winner words n (2 * i)) left.state)
 
         right_key : key after n (winner after n (2 * i + 1)) ≡ key words n (winner words n (2 * i + 1))
-        right_key = rw at_right (keeps-key (winner words n (2 * i + 1)) right.state)
+        right_key = rw at_right (keeps_key (winner words n (2 * i + 1)) right.state)
 
         go : Chosen words n i x → Plays n (winner after n) (key after n) i
-        go (from_left q l) = left-plays some inner now-left now-right (names ∙ q ∙ sym at_left) (omega (arith, left_key, right_key, l))
-        go (from_right q l) = right-plays some inner now-left now-right (names ∙ q ∙ sym at_right) (omega (arith, left_key, right_key, l))
+        go (from_left q l) = left_plays some inner now_left now_right (names ∙ q ∙ sym at_left) (omega (arith, left_key, right_key, l))
+        go (from_right q l) = right_plays some inner now_left now_right (names ∙ q ∙ sym at_right) (omega (arith, left_key, right_key, l))
 
     -- one node more plays
-    pub set-playing : {holds' : ℕ → Type 0} → ((c : ℕ) → holds' c → (c ≡ i → ⊥) → holds c) → Playing n before after holds'
-    set-playing {holds'} more =
+    pub set_playing : {holds' : ℕ → Type 0} → ((c : ℕ) → holds' c → (c ≡ i → ⊥) → holds c) → Playing n before after holds'
+    set_playing {holds'} more =
         record {
           long = rw e (length-set words (3 * n + i) x ∙ p.long);
-          front = λ j h. rw e (stored-front words n i x j h ∙ p.front j h);
+          front = λ j h. rw e (stored_front words n i x j h ∙ p.front j h);
           node = λ c a b x. go c a b x (ℕ_discrete c i);
         }
       where
         go : (c : ℕ) → 0 < c → c < n → holds' c → Dec (c ≡ i) → Plays n (winner after n) (key after n) c
-        go c a b x (yes q) = rw q set-plays
+        go c a b x (yes q) = rw q set_plays
         go c a b x (no q) = other c q (p.node c a b (more c x q))
 
 -- The nodes over one state, from the lowest on: those that are not over `node` play.

@@ -8,7 +8,7 @@ use mathlib.Core.Bool.{true, false}
 use mathlib.Core.List.{List}
 use lib.ListN.{length, get_or, set, length-set}
 use Rattle.state_queue.specs.Inner.Queue.{key, winner, Over, itself, parent, Plays, Roomy, Queue, NearlyPlays, Nearly, Climbs, Climbed, named_already, named_now, other_stays, Played}
-use Rattle.state_queue.proofs.Keys.{stored-front, stored-key, stored-node, stored_other}
+use Rattle.state_queue.proofs.Keys.{stored_front, stored_key, stored_node, stored_other}
 use Rattle.state_queue.proofs.Tournament.{over_parent, over_trans}
 use Rattle.state_queue.proofs.Playing.{Away, away_more, away_end}
 
@@ -40,8 +40,8 @@ raising_begin {n} {state} {words} w =
 
 module _ {n state node : ℕ} {before words : List ℕ} (r : Raising n before words state node) where
   -- the node names the state itself
-  pub raising-on : winner words n node ≡ state → Raising n before words state (node / 2)
-  raising-on e =
+  pub raising_on : winner words n node ≡ state → Raising n before words state (node / 2)
+  raising_on e =
       record {
         long = r.long;
         front = r.front;
@@ -60,13 +60,13 @@ module _ {n state node : ℕ} {before words : List ℕ} (r : Raising n before wo
   -- the state comes before the one that the node names
   module _ (roomy : Roomy n words) (some : 0 < node) (l : key words n state < key words n (winner words n node)) where
     keeps : (s : ℕ) → s < n → key (set words (3 * n + node) state) n s ≡ key words n s
-    keeps s h = stored-key words n node state s h
+    keeps s h = stored_key words n node state s h
 
     names : winner (set words (3 * n + node) state) n node ≡ state
-    names = stored-node words n node state r.inner (omega (arith, r.inner, roomy.room))
+    names = stored_node words n node state r.inner (omega (arith, r.inner, roomy.room))
 
-    nearly-set : NearlyPlays n (winner (set words (3 * n + node) state) n) (key (set words (3 * n + node) state) n) state node
-    nearly-set =
+    nearly_set : NearlyPlays n (winner (set words (3 * n + node) state) n) (key (set words (3 * n + node) state) n) state node
+    nearly_set =
         record {
           state_below = omega (arith, names, r.there);
           below = rw names r.way;
@@ -75,12 +75,12 @@ module _ {n state node : ℕ} {before words : List ℕ} (r : Raising n before wo
               (omega (arith, l, (r.nearly node some r.inner).least s h ne o));
         }
 
-    nearly-other :
+    nearly_other :
         (i : ℕ)
         → (i ≡ node → ⊥)
         → NearlyPlays n (winner words n) (key words n) state i
         → NearlyPlays n (winner (set words (3 * n + node) state) n) (key (set words (3 * n + node) state) n) state i
-    nearly-other i q p =
+    nearly_other i q p =
         let e = stored_other words n node state i q in
         record {
           state_below = omega (arith, e, p.state_below);
@@ -88,11 +88,11 @@ module _ {n state node : ℕ} {before words : List ℕ} (r : Raising n before wo
           least = λ s h ne o. rw (e, keeps (winner words n i) p.state_below, keeps s h) (p.least s h ne o);
         }
 
-    pub raising-set : Raising n before (set words (3 * n + node) state) state (node / 2)
-    raising-set =
+    pub raising_set : Raising n before (set words (3 * n + node) state) state (node / 2)
+    raising_set =
         record {
           long = length-set words (3 * n + node) state ∙ r.long;
-          front = λ j h. stored-front words n node state j h ∙ r.front j h;
+          front = λ j h. stored_front words n node state j h ∙ r.front j h;
           there = r.there;
           inner = omega (arith, r.inner);
           way = parent (node / 2) node r.way refl;
@@ -102,8 +102,8 @@ module _ {n state node : ℕ} {before words : List ℕ} (r : Raising n before wo
       where
         near :
             (i : ℕ) → 0 < i → i < n → Dec (i ≡ node) → NearlyPlays n (winner (set words (3 * n + node) state) n) (key (set words (3 * n + node) state) n) state i
-        near i a b (yes q) = rw q nearly-set
-        near i a b (no q) = nearly-other i q (r.nearly i a b)
+        near i a b (yes q) = rw q nearly_set
+        near i a b (no q) = nearly_other i q (r.nearly i a b)
 
         go :
             (i : ℕ)
@@ -136,8 +136,8 @@ module _ {n state node : ℕ} {before words : List ℕ} (r : Raising n before wo
   raised z = played (λ i a b o. r.passed i a b (rw z (away_end i a)) o)
 
   -- the node names another state that comes no later: nothing above changes
-  pub raised-here : 0 < node → (winner words n node ≡ state → ⊥) → key words n (winner words n node) ≤ key words n state → Played n before words
-  raised-here some ne l = played (λ i a b o. go i a b o (dec_le (key words n (winner words n i)) (key words n state)))
+  pub raised_here : 0 < node → (winner words n node ≡ state → ⊥) → key words n (winner words n node) ≤ key words n state → Played n before words
+  raised_here some ne l = played (λ i a b o. go i a b o (dec_le (key words n (winner words n i)) (key words n state)))
     where
       go :
           (i : ℕ)
@@ -165,8 +165,8 @@ pub raising_climbed :
     → 0 < node
     → Climbed n state node words after true
     → Raising n before after state (node / 2)
-raising_climbed r roomy some (named_already e q) = rw q (raising-on r e)
-raising_climbed r roomy some (named_now l q) = rw q (raising-set r roomy some l)
+raising_climbed r roomy some (named_already e q) = rw q (raising_on r e)
+raising_climbed r roomy some (named_now l q) = rw q (raising_set r roomy some l)
 
 pub raising_stopped :
     {n state node : ℕ} {before words after : List ℕ}
@@ -174,4 +174,4 @@ pub raising_stopped :
     → 0 < node
     → Climbed n state node words after false
     → Played n before after
-raising_stopped r some (other_stays ne l q) = rw q (raised-here r some ne l)
+raising_stopped r some (other_stays ne l q) = rw q (raised_here r some ne l)

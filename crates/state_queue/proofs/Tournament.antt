@@ -59,27 +59,27 @@ state_plays {n} {i} {first} {key} l h e =
 
 -- A node plays that names the better of its children's states.
 module _ {n i : ℕ} {first key : ℕ → ℕ} (some : 0 < i) (inner : i < n) (left : Plays n first key (2 * i)) (right : Plays n first key (2 * i + 1)) where
-  both-least : (x s : ℕ) → key x ≤ key (first (2 * i)) → key x ≤ key (first (2 * i + 1)) → s < n → Over (n + s) i → key x ≤ key s
-  both-least x s a b h o = go (over_child o (omega arith))
+  both_least : (x s : ℕ) → key x ≤ key (first (2 * i)) → key x ≤ key (first (2 * i + 1)) → s < n → Over (n + s) i → key x ≤ key s
+  both_least x s a b h o = go (over_child o (omega arith))
     where
       go : Over (n + s) (2 * i) ⊎ Over (n + s) (2 * i + 1) → key x ≤ key s
       go (inl p) = omega (arith, left.least s h p)
       go (inr p) = omega (arith, right.least s h p)
 
-  pub left-plays : first i ≡ first (2 * i) → key (first (2 * i)) ≤ key (first (2 * i + 1)) → Plays n first key i
-  left-plays e l =
+  pub left_plays : first i ≡ first (2 * i) → key (first (2 * i)) ≤ key (first (2 * i + 1)) → Plays n first key i
+  left_plays e l =
       record {
         state = omega (arith, left.state);
         below = rw e (over_left left.below);
-        least = λ s h o. rw e (both-least (first (2 * i)) s (omega arith) l h o);
+        least = λ s h o. rw e (both_least (first (2 * i)) s (omega arith) l h o);
       }
 
-  pub right-plays : first i ≡ first (2 * i + 1) → key (first (2 * i + 1)) ≤ key (first (2 * i)) → Plays n first key i
-  right-plays e l =
+  pub right_plays : first i ≡ first (2 * i + 1) → key (first (2 * i + 1)) ≤ key (first (2 * i)) → Plays n first key i
+  right_plays e l =
       record {
         state = omega (arith, right.state);
         below = rw e (over_right right.below);
-        least = λ s h o. rw e (both-least (first (2 * i + 1)) s l (omega arith) h o);
+        least = λ s h o. rw e (both_least (first (2 * i + 1)) s l (omega arith) h o);
       }
 
 -- A node that names the same state as before, all keys below it being as before, plays as before.
@@ -99,11 +99,11 @@ plays_on {n} {i} {first} {key} {first'} {key'} e k p =
 
 -- The key of one state changes. Nodes that do not stand over it play on; if it falls, all nodes play, that state aside.
 module _ {n i state : ℕ} {first key first' key' : ℕ → ℕ} (e : first' i ≡ first i) (k : (s : ℕ) → s < n → (s ≡ state → ⊥) → key' s ≡ key s) (p : Plays n first key i) where
-  pub waits-on : (Over (n + state) i → ⊥) → Plays n first' key' i
-  waits-on away = plays_on e (λ s h o. k s h (λ q. away (rw (← q) o))) p
+  pub waits_on : (Over (n + state) i → ⊥) → Plays n first' key' i
+  waits_on away = plays_on e (λ s h o. k s h (λ q. away (rw (← q) o))) p
 
-  pub nearly-plays : key' state ≤ key state → NearlyPlays n first' key' state i
-  nearly-plays f =
+  pub nearly_plays : key' state ≤ key state → NearlyPlays n first' key' state i
+  nearly_plays f =
       record {
         state_below = omega (arith, p.state);
         below = rw e p.below;

@@ -16,66 +16,66 @@ use Rattle.stepper.specs.Inner.Done.{StepDone}
 
 -- the initial state and the twins play no part in a run
 module _ (l : Lent) where
-  same-run-on :
+  same_run_on :
       (p : Progress) (numbers : List ℕ)
       → run_on (task_of l) p numbers ≡ run_on (running l.head l.formulas l.effects l.operators) p numbers
   unfolding run_on answer after_step applicable charge goal_holds operator_of effect_of_operator task_of
-  same-run-on p [] = refl
-  same-run-on p (o ∷ rest) = rw (same-run-on (after_step (task_of l) p o) rest)
+  same_run_on p [] = refl
+  same_run_on p (o ∷ rest) = rw (same_run_on (after_step (task_of l) p o) rest)
 
-  pub same-run :
+  pub same_run :
       (s numbers : List ℕ)
       → plain_run (running l.head l.formulas l.effects l.operators) s numbers ≡ plain_run (task_of l) s numbers
   unfolding plain_run
-  same-run s numbers = sym (same-run-on (record { state = s; steps = 0; cost = 0 }) numbers)
+  same_run s numbers = sym (same_run_on (record { state = s; steps = 0; cost = 0 }) numbers)
 
 -- the ways out of `step_ready`
 module _ {t : Task} {s : List ℕ} {o : ℕ} {r : Taken} {after : List ℕ} (taken : Takes t s o r after) where
   start : Progress
   start = record { state = s; steps = 0; cost = 0 }
 
-  stop-same : r.stop ≡ (took t s o).answer.stop
-  stop-same = ap (λ (x : Taken). x.stop) taken.answer
+  stop_same : r.stop ≡ (took t s o).answer.stop
+  stop_same = ap (λ (x : Taken). x.stop) taken.answer
 
-  as-told :
+  as_told :
       (x : StepOutcome) (w : Run)
       → plain_run t s (o ∷ []) ≡ w
       → x ≡ (step_told w.stop w s []).answer
       → after ≡ (step_told w.stop w s []).state
       → StepDone t s o x after
-  as-told x w q one two = record { answer = rw q one; state = rw q two }
+  as_told x w q one two = record { answer = rw q one; state = rw q two }
 
-  pub step-stopped :
+  pub step_stopped :
       (r.stop ≡ 0 → ⊥)
       → {x : StepOutcome}
       → x ≡ record { refusal = r.stop; steps = 0; cost = 0; goal = false }
       → StepDone t s o x after
   unfolding plain_run answer step_told step_refused start
-  step-stopped d {x} e =
-      as-told x (answer t start (stopped r.stop)) whole e (taken.state ∙ ways.1)
+  step_stopped d {x} e =
+      as_told x (answer t start (stopped r.stop)) whole e (taken.state ∙ ways.1)
     where
       ways :
           (run_on t start (o ∷ []) ≡ answer t start (stopped (took t s o).answer.stop)) × ((took t s o).state ≡ s)
-      ways = stops t start o [] (λ z. d (stop-same ∙ z))
+      ways = stops t start o [] (λ z. d (stop_same ∙ z))
 
       whole : plain_run t s (o ∷ []) ≡ answer t start (stopped r.stop)
-      whole = ways.0 ∙ ap (λ (n : ℕ). answer t start (stopped n)) (sym stop-same)
+      whole = ways.0 ∙ ap (λ (n : ℕ). answer t start (stopped n)) (sym stop_same)
 
-  pub step-finished :
+  pub step_finished :
       r.stop ≡ 0
       → {goal : Bool}
       → goal ≡ goal_holds t after
       → StepDone t s o (record { refusal = 0; steps = 1; cost = r.charge; goal = goal }) after
   unfolding plain_run run_on answer step_told start
-  step-finished e {goal} told =
-      as-told (record { refusal = 0; steps = 1; cost = r.charge; goal = goal }) (answer t done ended) whole (rw told) refl
+  step_finished e {goal} told =
+      as_told (record { refusal = 0; steps = 1; cost = r.charge; goal = goal }) (answer t done ended) whole (rw told) refl
     where
       done : Progress
       done = record { state = after; steps = 1; cost = r.charge }
 
       whole : plain_run t s (o ∷ []) ≡ answer t done ended
       whole =
-          goes_on t start o [] (sym stop-same ∙ e)
+          goes_on t start o [] (sym stop_same ∙ e)
           ∙ rw (zero-add (took t s o).answer.charge, taken.answer, taken.state)
 
 -- what a step tells does not hang on its scratch
@@ -96,14 +96,14 @@ told_scratch (stopped n) w s scratch = refl
 
 -- the ways out of `step`
 module _ (l : Lent) (s : List ℕ) (o : ℕ) (scratch : List ℕ) (early : ℕ) (asked : early ≡ early_refusal l s scratch) where
-  pub step-refuses :
+  pub step_refuses :
       (early ≡ 0 → ⊥)
       → (r : StepOutcome) (rest : List ℕ)
       → r ≡ record { refusal = early; steps = 0; cost = 0; goal = false }
       → rest ≡ cleared scratch
       → StepGives (stepped l s o scratch) r s rest
   unfolding stepped step_by step_refused
-  step-refuses d r rest e z = rw (← asked) (go early d e)
+  step_refuses d r rest e z = rw (← asked) (go early d e)
     where
       go :
           (n : ℕ)
@@ -121,7 +121,7 @@ module _ (l : Lent) (s : List ℕ) (o : ℕ) (scratch : List ℕ) (early : ℕ) 
       → rest ≡ cleared mid
       → StepGives (stepped l s o scratch) r after rest
   unfolding stepped step_by
-  step_gives e r after mid rest done same z = rw (← asked, e) (go (plain_run (task_of l) s (o ∷ [])) (same-run l s (o ∷ [])))
+  step_gives e r after mid rest done same z = rw (← asked, e) (go (plain_run (task_of l) s (o ∷ [])) (same_run l s (o ∷ [])))
     where
       go :
           (w : Run)

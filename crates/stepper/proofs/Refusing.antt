@@ -11,8 +11,8 @@ use Rattle.task.specs.Bounded.{every}
 use Rattle.task.specs.Table.{Lent}
 use Rattle.task.specs.Check.{refusal, unless}
 use Rattle.task.proofs.Bounded.{and_left, and_right, every_at}
-use Rattle.task.proofs.Held.{length-initial, length-formulas, length-effects, length-operators, formula-held, effect-held, operator-held, goal-held}
-use Rattle.task.proofs.Kept.{kept-rules}
+use Rattle.task.proofs.Held.{length_initial, length_formulas, length_effects, length_operators, formula_held, effect_held, operator_held, goal_held}
+use Rattle.task.proofs.Kept.{kept_rules}
 use Rattle.operator_step.specs.Inner.Steps.{TablesReady, Ready}
 use Rattle.stepper.specs.Stepped.{state_kept, step_scratch_kept, first_of, early_refusal}
 
@@ -38,18 +38,18 @@ unless_rest false n rest d e = absurd (d e)
 
 -- the ways out of `refused_early`
 module _ (l : Lent) (s scratch : List ℕ) (n : ℕ) (checked : n ≡ refusal l) where
-  pub refused-tables : (n ≡ 0 → ⊥) → n ≡ early_refusal l s scratch
+  pub refused_tables : (n ≡ 0 → ⊥) → n ≡ early_refusal l s scratch
   unfolding early_refusal
-  refused-tables d = rw (← checked)
+  refused_tables d = rw (← checked)
       (first n (unless (state_kept l.head.variables s) 16 (unless (step_scratch_kept l.head scratch) 14 0)) d)
 
   module _ (passed : n ≡ 0) where
     none : refusal l ≡ 0
     none = sym checked ∙ passed
 
-    pub refused-length : (length s ≡ l.head.variables → ⊥) → 16 ≡ early_refusal l s scratch
+    pub refused_length : (length s ≡ l.head.variables → ⊥) → 16 ≡ early_refusal l s scratch
     unfolding early_refusal state_kept
-    refused-length d = rw (none, ne_eqb (length s) l.head.variables d)
+    refused_length d = rw (none, ne_eqb (length s) l.head.variables d)
 
     module _ (size : length s ≡ l.head.variables) (told : Bool) (bits : told ≡ every (length s) (λ v. leb (get_or s v 0) 1)) where
       pub refused-bits : told ≡ false → 16 ≡ early_refusal l s scratch
@@ -80,33 +80,33 @@ module _ (l : Lent) (s scratch : List ℕ) (n : ℕ) (checked : n ≡ refusal l)
 
 -- once the tables pass, a step may look at them
 module _ (l : Lent) (passed : refusal l ≡ 0) where
-  pub tables-ready : TablesReady l.head l.formulas l.effects l.operators
-  tables-ready =
-      let long = (kept-rules l passed).0 in
-      let rules = (kept-rules l passed).1 in
+  pub tables_ready : TablesReady l.head l.formulas l.effects l.operators
+  tables_ready =
+      let long = (kept_rules l passed).0 in
+      let rules = (kept_rules l passed).1 in
       record {
         formulas_there = long.formulas;
         effects_there = long.effects;
         operators_there = long.operators;
         formula =
-            λ i h. rw (formula-held l i h, length-initial l long) at (rules.formula i (rw (length-formulas l) h));
+            λ i h. rw (formula_held l i h, length_initial l long) at (rules.formula i (rw (length_formulas l) h));
         effect =
             λ i h.
-            rw (effect-held l i h, length-initial l long, length-formulas l) at (rules.effect i (rw (length-effects l) h));
+            rw (effect_held l i h, length_initial l long, length_formulas l) at (rules.effect i (rw (length_effects l) h));
         operator =
             λ i h.
-            rw (operator-held l i h, length-formulas l, length-effects l) at
-            (rules.operator i (rw (length-operators l) h));
-        goal = rw (goal-held l, length-formulas l) at rules.goal_is_formula;
+            rw (operator_held l i h, length_formulas l, length_effects l) at
+            (rules.operator i (rw (length_operators l) h));
+        goal = rw (goal_held l, length_formulas l) at rules.goal_is_formula;
       }
 
 module _ (l : Lent) (s scratch : List ℕ) (passed : early_refusal l s scratch ≡ 0) where
   later : ℕ
   later = unless (state_kept l.head.variables s) 16 (unless (step_scratch_kept l.head scratch) 14 0)
 
-  tables-passed : refusal l ≡ 0
+  tables_passed : refusal l ≡ 0
   unfolding early_refusal later
-  tables-passed = first_none (refusal l) later passed
+  tables_passed = first_none (refusal l) later passed
 
   pub ready : Ready l.head l.formulas l.effects l.operators s scratch
   unfolding early_refusal later state_kept step_scratch_kept
@@ -117,7 +117,7 @@ module _ (l : Lent) (s scratch : List ℕ) (passed : early_refusal l s scratch �
       let bits = every (length s) (λ v. leb (get_or s v 0) 1) in
       let both : (size && bits) ≡ true = unless_kept (state_kept l.head.variables s) 16 room (omega arith) rest in
       record {
-        tables = tables-ready l tables-passed;
+        tables = tables_ready l tables_passed;
         state =
             record {
               size = eqb-true (length s) l.head.variables (and_left size bits both);

@@ -142,15 +142,15 @@ first_ends n f k p q e =
     sym (rw same at e)
 
 module _ {A : Type 0} where
-  pub length-upto : (n : ℕ) (f : ℕ → A) → length (upto n f) ≡ n
+  pub length_upto : (n : ℕ) (f : ℕ → A) → length (upto n f) ≡ n
   unfolding upto
-  length-upto zero f = refl
-  length-upto (suc n) f = length-append (upto n f) (f n ∷ []) ∙ rw (length-upto n f) (add-one n)
+  length_upto zero f = refl
+  length_upto (suc n) f = length-append (upto n f) (f n ∷ []) ∙ rw (length_upto n f) (add-one n)
 
-  pub getD-upto : (n : ℕ) (f : ℕ → A) (k : ℕ) (d : A) → k < n → get_or (upto n f) k d ≡ f k
+  pub getD_upto : (n : ℕ) (f : ℕ → A) (k : ℕ) (d : A) → k < n → get_or (upto n f) k d ≡ f k
   unfolding upto
-  getD-upto zero f k d h = absurd (not-suc-le-zero h)
-  getD-upto (suc n) f k d h =
+  getD_upto zero f k d h = absurd (not-suc-le-zero h)
+  getD_upto (suc n) f k d h =
       below_suc k n (get_or (upto n f ++ (f n ∷ [])) k d ≡ f k) h
-      (λ l. get_or-append (upto n f) (f n ∷ []) d k (rw (length-upto n f) l) ∙ getD-upto n f k d l)
-      (λ q. get_or_at (upto n f) (f n) [] d k (length-upto n f ∙ sym q) ∙ ap f (sym q))
+      (λ l. get_or-append (upto n f) (f n ∷ []) d k (rw (length_upto n f) l) ∙ getD_upto n f k d l)
+      (λ q. get_or_at (upto n f) (f n) [] d k (length_upto n f ∙ sym q) ∙ ap f (sym q))

@@ -16,10 +16,10 @@ use Rattle.task.specs.Table.{Row, EffectKind, empty_kind, set_kind, clear_kind, 
 use Rattle.task.specs.Rules.{no_row}
 use Rattle.task.specs.Semantics.{Atom, sets, clears, effcond, value_after, apply}
 use Rattle.task.specs.Tree.{effect_of}
-use Rattle.task.proofs.Bounded.{and_left, and_right, and_both, length-upto, getD-upto}
+use Rattle.task.proofs.Bounded.{and_left, and_right, and_both, length_upto, getD_upto}
 use Rattle.task.specs.Inner.Rows.{EffectsDown}
 use Rattle.task.specs.Inner.Values.{told, bit}
-use Rattle.task.proofs.Marks.{or_left, or_right, or_cases, kind_is, row_is, Marked, Found, marked-in, effcond-marked}
+use Rattle.task.proofs.Marks.{or_left, or_right, or_cases, kind_is, row_is, Marked, Found, marked_in, effcond_marked}
 
 -- one of the marked rows below n is the atom
 unfoldable pub acted : (marks : List ℕ) → List Row → Atom → ℕ → Bool
@@ -136,29 +136,29 @@ same_test false false there back = refl
 module _ (s : List ℕ) (formulas effects : List Row) (root v f : ℕ) (down : EffectsDown v f effects) (marks : List ℕ)
     (in_table : root < length effects)
     (marked : (j : ℕ) → j < length effects → get_or marks j 0 ≡ 1 ↔ Marked s formulas effects root j) where
-  acted-found : (l : Atom) (n : ℕ) → n ≤ length effects → acted marks effects l n ≡ true → Found s formulas effects root l
+  acted_found : (l : Atom) (n : ℕ) → n ≤ length effects → acted marks effects l n ≡ true → Found s formulas effects root l
   unfolding acted
-  acted-found l zero h e = absurd (false≢true e)
-  acted-found l (suc n) h e =
+  acted_found l zero h e = absurd (false≢true e)
+  acted_found l (suc n) h e =
       let is = row_is l (get_or effects n no_row) in
       or_cases (acted marks effects l n) (told marks n && is) (Found s formulas effects root l) e
-      (acted-found l n (omega arith))
+      (acted_found l n (omega arith))
       (λ both.
       record {
         at = n;
         marked = (marked n h).0 (eqb-true (get_or marks n 0) 1 (and_left (told marks n) is both));
-        is-atom = and_right (told marks n) is both;
+        is_atom = and_right (told marks n) is both;
       })
 
-  acted-at :
+  acted_at :
       (l : Atom) (n j : ℕ)
       → j < n
       → get_or marks j 0 ≡ 1
       → row_is l (get_or effects j no_row) ≡ true
       → acted marks effects l n ≡ true
   unfolding acted
-  acted-at l zero j h e is = absurd (not-suc-le-zero h)
-  acted-at l (suc n) j h e is = go (ℕ_discrete j n) (acted-at l n j)
+  acted_at l zero j h e is = absurd (not-suc-le-zero h)
+  acted_at l (suc n) j h e is = go (ℕ_discrete j n) (acted_at l n j)
     where
       now : Bool
       now = told marks n && row_is l (get_or effects n no_row)
@@ -173,49 +173,49 @@ module _ (s : List ℕ) (formulas effects : List Row) (root v f : ℕ) (down : E
       go (no m) before = or_left (acted marks effects l n) now (before (omega arith) e is)
 
   -- an atom's condition holds exactly if a marked row is the atom
-  pub acted-agrees : (l : Atom) → acted marks effects l (length effects) ≡ effcond s l (effect_of formulas effects root)
-  acted-agrees l =
+  pub acted_agrees : (l : Atom) → acted marks effects l (length effects) ≡ effcond s l (effect_of formulas effects root)
+  acted_agrees l =
       same_test (acted marks effects l (length effects)) (effcond s l (effect_of formulas effects root))
-      (λ e. law.1 (acted-found l (length effects) (omega arith) e))
+      (λ e. law.1 (acted_found l (length effects) (omega arith) e))
       (λ e.
       let found = law.0 e in
-      let here = marked-in s formulas effects root v f down in_table found.at found.marked in
-      acted-at l (length effects) found.at here ((marked found.at here).1 found.marked) found.is-atom)
+      let here = marked_in s formulas effects root v f down in_table found.at found.marked in
+      acted_at l (length effects) found.at here ((marked found.at here).1 found.marked) found.is_atom)
     where
       law : effcond s l (effect_of formulas effects root) ≡ true ↔ Found s formulas effects root l
-      law = effcond-marked s formulas effects root v f down in_table l
+      law = effcond_marked s formulas effects root v f down in_table l
 
   -- each variable gets its value at once
-  value-changed :
+  value_changed :
       (w : ℕ)
       → w < length s
       → let n = length effects in
       get_or (changes true marks effects n (changes false marks effects n s)) w 0
       ≡ value_after s (effect_of formulas effects root) w
   unfolding value_after atom_of bit
-  value-changed w b =
+  value_changed w b =
       let n = length effects in
       rw (
         change_at true marks effects n (changes false marks effects n s) w
             (rw (length_changes false marks effects n s) b),
         change_at false marks effects n s w b,
-        acted-agrees (sets w),
-        acted-agrees (clears w),
+        acted_agrees (sets w),
+        acted_agrees (clears w),
       )
 
   -- The law of the step: clears, then sets, over all rows.
-  pub changes-apply :
+  pub changes_apply :
       let n = length effects in
       changes true marks effects n (changes false marks effects n s) ≡ apply s (effect_of formulas effects root)
   unfolding apply
-  changes-apply =
+  changes_apply =
       let n = length effects in
       let e = effect_of formulas effects root in
       let cleared = changes false marks effects n s in
       let long : length (changes true marks effects n cleared) ≡ length s =
       length_changes true marks effects n cleared ∙ length_changes false marks effects n s in
       ext_get_or 0 (changes true marks effects n cleared) (apply s e)
-      (long ∙ sym (length-upto (length s) (value_after s e)))
+      (long ∙ sym (length_upto (length s) (value_after s e)))
       (λ w h.
       let b : w < length s = rw long at h in
-      value-changed w b ∙ sym (getD-upto (length s) (value_after s e) w 0 b))
+      value_changed w b ∙ sym (getD_upto (length s) (value_after s e) w 0 b))

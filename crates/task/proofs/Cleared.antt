@@ -24,7 +24,7 @@ module _ (table : List ℕ) where
         zeros = ap (λ (l : List ℕ). set l i 0) c.zeros ∙ fill_more i 0 table (omega (arith, c.same));
       }
 
-  pub cleared-all : (now : List ℕ) (i : ℕ) → Cleared table now i → length now ≤ i → now ≡ replicate (length table) 0
-  cleared-all now i c h =
+  pub cleared_all : (now : List ℕ) (i : ℕ) → Cleared table now i → length now ≤ i → now ≡ replicate (length table) 0
+  cleared_all now i c h =
       let e : i ≡ length table = omega (arith, c.same, c.bound) in
       c.zeros ∙ rw (e, drop-length table) (append-nil (replicate (length table) 0))

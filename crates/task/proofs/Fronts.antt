@@ -46,21 +46,21 @@ module _
     {A : Type 0} (f : A → List ℕ) (at : ℕ → A) (t : List ℕ) (w : ℕ)
     (words : (i : ℕ) → w * i + w ≤ length t → f (at i) ≡ take w (drop (w * i) t))
   where
-    joined-front : (n : ℕ) → w * n ≤ length t → take (w * n) t ≡ joined f (upto n at)
+    joined_front : (n : ℕ) → w * n ≤ length t → take (w * n) t ≡ joined f (upto n at)
     unfolding upto joined
-    joined-front zero h = rw (mul-zero w) refl
-    joined-front (suc n) h =
+    joined_front zero h = rw (mul-zero w) refl
+    joined_front (suc n) h =
         let e : w * suc n ≡ w * n + w = omega (arith, mul-suc w n) in
         ap (λ (k : ℕ). take k t) e
         ∙ take-add (w * n) w t
-        ∙ rw (joined-front n (omega arith), ← words n (omega arith))
+        ∙ rw (joined_front n (omega arith), ← words n (omega arith))
         (sym
         (joined_append f (upto n at) (at n ∷ []) ∙ ap (λ (l : List ℕ). joined f (upto n at) ++ l) (append-nil (f (at n)))))
 
 pub rows_front : (t : List ℕ) (n : ℕ) → 3 * n ≤ length t → take (3 * n) t ≡ words_of (upto n (row_at t))
 unfolding words_of row_words row_at
-rows_front t n h = joined-front row_words (row_at t) t 3 (λ i b. three_words t (3 * i) b) n h
+rows_front t n h = joined_front row_words (row_at t) t 3 (λ i b. three_words t (3 * i) b) n h
 
 pub operators_front : (t : List ℕ) (n : ℕ) → operator_width * n ≤ length t → take (operator_width * n) t ≡ operator_words (upto n (operator_at t))
 unfolding operator_words operator_row_words operator_at
-operators_front t n h = joined-front operator_row_words (operator_at t) t operator_width (λ i b. four_words t (operator_width * i) b) n h
+operators_front t n h = joined_front operator_row_words (operator_at t) t operator_width (λ i b. four_words t (operator_width * i) b) n h

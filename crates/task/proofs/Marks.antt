@@ -13,7 +13,7 @@ use Rattle.task.specs.Rules.{no_row, EffectRule}
 use Rattle.task.specs.Semantics.{Formula, Effect, Atom, sets, clears, holds, same_atom, effcond}
 use Rattle.task.specs.Tree.{formula_of, effect_node, effect_of}
 use Rattle.task.proofs.Bounded.{and_left, and_right, and_both}
-use Rattle.task.proofs.Trees.{effect-unfolds}
+use Rattle.task.proofs.Trees.{effect_unfolds}
 use Rattle.task.specs.Inner.Rows.{EffectsDown}
 
 -- either side of a disjunction
@@ -55,35 +55,35 @@ module _ (s : List ℕ) (formulas effects : List Row) (root : ℕ) where
   pub record Found (l : Atom) : Type 0 where
     pub at : ℕ
     pub marked : Marked at
-    pub is-atom : row_is l (get_or effects at no_row) ≡ true
+    pub is_atom : row_is l (get_or effects at no_row) ≡ true
 
   module _ (v f : ℕ) (down : EffectsDown v f effects) (in_table : root < length effects) where
-    rule-at :
+    rule_at :
         (i : ℕ) (k : EffectKind)
         → i < length effects
         → effect_kind (get_or effects i no_row).kind ≡ k
         → EffectRule v f i k (get_or effects i no_row).a (get_or effects i no_row).b
-    rule-at i k b e =
+    rule_at i k b e =
         subst (λ (x : EffectKind). EffectRule v f i x (get_or effects i no_row).a (get_or effects i no_row).b) e
         (down.row i b)
 
-    pub marked-below : (i : ℕ) → Marked i → i ≤ root
-    marked-below i at_root = omega arith
-    marked-below i (left j m e) =
-        let h = marked-below j m in
-        omega (arith, rule-at j both_kind (omega arith) e)
-    marked-below i (right j m e) =
-        let h = marked-below j m in
-        omega (arith, rule-at j both_kind (omega arith) e)
-    marked-below i (inner j m e holding) =
-        let h = marked-below j m in
-        omega (arith, rule-at j under_kind (omega arith) e)
+    pub marked_below : (i : ℕ) → Marked i → i ≤ root
+    marked_below i at_root = omega arith
+    marked_below i (left j m e) =
+        let h = marked_below j m in
+        omega (arith, rule_at j both_kind (omega arith) e)
+    marked_below i (right j m e) =
+        let h = marked_below j m in
+        omega (arith, rule_at j both_kind (omega arith) e)
+    marked_below i (inner j m e holding) =
+        let h = marked_below j m in
+        omega (arith, rule_at j under_kind (omega arith) e)
 
-    pub marked-in : (i : ℕ) → Marked i → i < length effects
-    marked-in i m = omega (arith, marked-below i m)
+    pub marked_in : (i : ℕ) → Marked i → i < length effects
+    marked_in i m = omega (arith, marked_below i m)
 
     -- the effect of row i, its kind being known
-    tree-at :
+    tree_at :
         (i : ℕ) (k : EffectKind)
         → i < length effects
         → effect_kind (get_or effects i no_row).kind ≡ k
@@ -91,7 +91,7 @@ module _ (s : List ℕ) (formulas effects : List Row) (root : ℕ) where
         effect_of formulas effects i
         ≡ effect_node k r.a (formula_of formulas r.a) (effect_of formulas effects r.a)
         (effect_of formulas effects r.b)
-    tree-at i k b e = rw (← e) (effect-unfolds v f formulas effects down i b)
+    tree_at i k b e = rw (← e) (effect_unfolds v f formulas effects down i b)
 
     -- what holds of a marked row's condition holds of the root's
     climbs :
@@ -104,40 +104,40 @@ module _ (s : List ℕ) (formulas effects : List Row) (root : ℕ) where
     climbs l i (left j m k) e =
         let r = get_or effects j no_row in
         climbs l j m
-        (ap (effcond s l) (tree-at j both_kind (marked-in j m) k)
+        (ap (effcond s l) (tree_at j both_kind (marked_in j m) k)
         ∙ or_left (effcond s l (effect_of formulas effects r.a)) (effcond s l (effect_of formulas effects r.b)) e)
     climbs l i (right j m k) e =
         let r = get_or effects j no_row in
         climbs l j m
-        (ap (effcond s l) (tree-at j both_kind (marked-in j m) k)
+        (ap (effcond s l) (tree_at j both_kind (marked_in j m) k)
         ∙ or_right (effcond s l (effect_of formulas effects r.a)) (effcond s l (effect_of formulas effects r.b)) e)
     climbs l i (inner j m k h) e =
-        climbs l j m (ap (effcond s l) (tree-at j under_kind (marked-in j m) k) ∙ and_both h e)
+        climbs l j m (ap (effcond s l) (tree_at j under_kind (marked_in j m) k) ∙ and_both h e)
 
-    is-acts :
+    is_acts :
         (l : Atom) (k : EffectKind) (a : ℕ) (p : Formula) (e g : Effect)
         → kind_is l k a ≡ true
         → effcond s l (effect_node k a p e g) ≡ true
     unfolding kind_is effect_node effcond
-    is-acts l empty_kind a p e g h = h
-    is-acts l set_kind a p e g h = h
-    is-acts l clear_kind a p e g h = h
-    is-acts l both_kind a p e g h = absurd (false≢true h)
-    is-acts l under_kind a p e g h = absurd (false≢true h)
-    is-acts l unknown_effect a p e g h = absurd (false≢true h)
+    is_acts l empty_kind a p e g h = h
+    is_acts l set_kind a p e g h = h
+    is_acts l clear_kind a p e g h = h
+    is_acts l both_kind a p e g h = absurd (false≢true h)
+    is_acts l under_kind a p e g h = absurd (false≢true h)
+    is_acts l unknown_effect a p e g h = absurd (false≢true h)
 
-    pub found-acts : (l : Atom) → Found l → effcond s l (effect_of formulas effects root) ≡ true
+    pub found_acts : (l : Atom) → Found l → effcond s l (effect_of formulas effects root) ≡ true
     unfolding row_is
-    found-acts l found =
+    found_acts l found =
         let i = found.at in
         let r = get_or effects i no_row in
         climbs l i found.marked
-        (ap (effcond s l) (effect-unfolds v f formulas effects down i (marked-in i found.marked))
-        ∙ is-acts l (effect_kind r.kind) r.a (formula_of formulas r.a) (effect_of formulas effects r.a)
-        (effect_of formulas effects r.b) found.is-atom)
+        (ap (effcond s l) (effect_unfolds v f formulas effects down i (marked_in i found.marked))
+        ∙ is_acts l (effect_kind r.kind) r.a (formula_of formulas r.a) (effect_of formulas effects r.a)
+        (effect_of formulas effects r.b) found.is_atom)
 
     -- a row whose condition holds is the atom, or a row below it, also marked, has the condition
-    finds-at :
+    finds_at :
         (l : Atom) (i : ℕ) (k : EffectKind)
         → Marked i
         → effect_kind (get_or effects i no_row).kind ≡ k
@@ -150,28 +150,28 @@ module _ (s : List ℕ) (formulas effects : List Row) (root : ℕ) where
         → ((j : ℕ) → j < i → Marked j → effcond s l (effect_of formulas effects j) ≡ true → Found l)
         → Found l
     unfolding row_is kind_is effect_node effcond
-    finds-at l i empty_kind m k rule e lower = absurd (false≢true e)
-    finds-at l i set_kind m k rule e lower = record { at = i; marked = m; is-atom = rw k e }
-    finds-at l i clear_kind m k rule e lower = record { at = i; marked = m; is-atom = rw k e }
-    finds-at l i both_kind m k rule e lower =
+    finds_at l i empty_kind m k rule e lower = absurd (false≢true e)
+    finds_at l i set_kind m k rule e lower = record { at = i; marked = m; is_atom = rw k e }
+    finds_at l i clear_kind m k rule e lower = record { at = i; marked = m; is_atom = rw k e }
+    finds_at l i both_kind m k rule e lower =
         let r = get_or effects i no_row in
         or_cases (effcond s l (effect_of formulas effects r.a)) (effcond s l (effect_of formulas effects r.b)) (Found l) e
         (λ h. lower r.a rule.0 (left i m k) h)
         (λ h. lower r.b rule.1 (right i m k) h)
-    finds-at l i under_kind m k rule e lower =
+    finds_at l i under_kind m k rule e lower =
         let r = get_or effects i no_row in
         let p = holds s (formula_of formulas r.a) in
         let inside = effcond s l (effect_of formulas effects r.b) in
         lower r.b rule.1 (inner i m k (and_left p inside e)) (and_right p inside e)
-    finds-at l i unknown_effect m k rule e lower = absurd rule
+    finds_at l i unknown_effect m k rule e lower = absurd rule
 
     finds : (l : Atom) (d i : ℕ) → i < d → Marked i → effcond s l (effect_of formulas effects i) ≡ true → Found l
     finds l zero i h m e = absurd (not-suc-le-zero h)
     finds l (suc d) i h m e =
-        finds-at l i (effect_kind (get_or effects i no_row).kind) m refl (down.row i (marked-in i m))
-        (ap (effcond s l) (sym (effect-unfolds v f formulas effects down i (marked-in i m))) ∙ e)
+        finds_at l i (effect_kind (get_or effects i no_row).kind) m refl (down.row i (marked_in i m))
+        (ap (effcond s l) (sym (effect_unfolds v f formulas effects down i (marked_in i m))) ∙ e)
         (λ j lower. finds l d j (omega arith))
 
     -- The law of the stepper: the condition of an atom holds exactly if a marked row is that atom.
-    pub effcond-marked : (l : Atom) → effcond s l (effect_of formulas effects root) ≡ true ↔ Found l
-    effcond-marked l = (finds l (suc root) root (omega arith) at_root, found-acts l)
+    pub effcond_marked : (l : Atom) → effcond s l (effect_of formulas effects root) ≡ true ↔ Found l
+    effcond_marked l = (finds l (suc root) root (omega arith) at_root, found_acts l)

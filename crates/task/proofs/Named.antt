@@ -12,7 +12,7 @@ use borrow.Author.Tests.{eqb-true, eqb-false, eq-eqb, ne_eqb}
 use Rattle.task.specs.Bounded.{every}
 use Rattle.task.specs.Check.{twin_kept}
 use Rattle.task.proofs.Bounded.{every_same}
-use Rattle.task.proofs.Refusals.{twin-again, twin-fine}
+use Rattle.task.proofs.Refusals.{twin_again, twin_fine}
 
 pub record NamedBy (twins : List ℕ) (k : ℕ) (named : List ℕ) : Type 0 where
   pub size : length named ≡ 512
@@ -55,8 +55,8 @@ module _ (twins : List ℕ) (k : ℕ) (named : List ℕ) (m : NamedBy twins k na
           rw (other, add-one k, e) (m.tells x l ∙ sym (and-true (every k (λ j. not (eqb (get_or twins j 0) x)))))
 
   -- what stands in row k and behind it does not matter
-  pub named-stored : (w : ℕ) → NamedBy (set twins k w) k named
-  named-stored w =
+  pub named_stored : (w : ℕ) → NamedBy (set twins k w) k named
+  named_stored w =
       record {
         size = m.size;
         tells =
@@ -68,8 +68,8 @@ module _ (twins : List ℕ) (k : ℕ) (named : List ℕ) (m : NamedBy twins k na
 
   -- row k's test
   module _ (bound : ℕ) (few : bound ≤ 512) (below : get_or twins k 0 < bound) where
-    pub named-before : (get_or named (get_or twins k 0) 0 ≡ 0 → ⊥) → twin_kept bound twins k ≡ false
-    named-before n = twin-again bound twins k (sym (m.tells (get_or twins k 0) (omega arith)) ∙ ne_eqb (get_or named (get_or twins k 0) 0) 0 n)
+    pub named_before : (get_or named (get_or twins k 0) 0 ≡ 0 → ⊥) → twin_kept bound twins k ≡ false
+    named_before n = twin_again bound twins k (sym (m.tells (get_or twins k 0) (omega arith)) ∙ ne_eqb (get_or named (get_or twins k 0) 0) 0 n)
 
     pub named_now : get_or named (get_or twins k 0) 0 ≡ 0 → twin_kept bound twins k ≡ true
-    named_now z = twin-fine bound twins k below (sym (m.tells (get_or twins k 0) (omega arith)) ∙ eq-eqb (get_or named (get_or twins k 0) 0) 0 z)
+    named_now z = twin_fine bound twins k below (sym (m.tells (get_or twins k 0) (omega arith)) ∙ eq-eqb (get_or named (get_or twins k 0) 0) 0 z)

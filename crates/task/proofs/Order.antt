@@ -14,34 +14,34 @@ broken true number e some = absurd (some e)
 broken false number e some = refl
 
 module _ (l : Lent) where
-  pub refused-6 : counts_kept l.head ≡ false → 6 ≡ refusal l
+  pub refused_6 : counts_kept l.head ≡ false → 6 ≡ refusal l
   unfolding refusal
-  refused-6 e = rw e
+  refused_6 e = rw e
 
 module _ (l : Lent) (a : counts_kept l.head ≡ true) where
-  pub refused-7 : goal_kept l.head ≡ false → 7 ≡ refusal l
+  pub refused_7 : goal_kept l.head ≡ false → 7 ≡ refusal l
   unfolding refusal
-  refused-7 e = rw (a, e)
+  refused_7 e = rw (a, e)
 
 module _ (l : Lent) (a : counts_kept l.head ≡ true) (b : goal_kept l.head ≡ true) where
-  pub refused-5 : long_enough l ≡ false → 5 ≡ refusal l
+  pub refused_5 : long_enough l ≡ false → 5 ≡ refusal l
   unfolding refusal
-  refused-5 e = rw (a, b, e)
+  refused_5 e = rw (a, b, e)
 
 module _ (l : Lent) (a : counts_kept l.head ≡ true) (b : goal_kept l.head ≡ true) (c : long_enough l ≡ true) where
-  pub refused-8 : initial_kept l ≡ false → 8 ≡ refusal l
+  pub refused_8 : initial_kept l ≡ false → 8 ≡ refusal l
   unfolding refusal
-  refused-8 e = rw (a, b, c, e)
+  refused_8 e = rw (a, b, c, e)
 
-  pub refused-9 : initial_kept l ≡ true → twins_kept l ≡ false → 9 ≡ refusal l
+  pub refused_9 : initial_kept l ≡ true → twins_kept l ≡ false → 9 ≡ refusal l
   unfolding refusal
-  refused-9 d e = rw (a, b, c, d, e)
+  refused_9 d e = rw (a, b, c, d, e)
 
   -- from here on each table has a number of its own, the first of its rows'
   module _ (d : initial_kept l ≡ true) (e : twins_kept l ≡ true) where
-    pub refused-10 : {n : ℕ} → n ≡ unless (formulas_kept l) 10 0 → (n ≡ 0 → ⊥) → n ≡ refusal l
+    pub refused_10 : {n : ℕ} → n ≡ unless (formulas_kept l) 10 0 → (n ≡ 0 → ⊥) → n ≡ refusal l
     unfolding refusal
-    refused-10 is some = is ∙ rw (a, b, c, d, e, broken (formulas_kept l) 10 is some)
+    refused_10 is some = is ∙ rw (a, b, c, d, e, broken (formulas_kept l) 10 is some)
 
     module _ {m : ℕ} (f : m ≡ unless (formulas_kept l) 10 0) (none : m ≡ 0) where
       pub refused-11 : {n : ℕ} → n ≡ unless (effects_kept l) 11 0 → (n ≡ 0 → ⊥) → n ≡ refusal l

@@ -136,13 +136,13 @@ room_tested n h = (told, tested)
         (le-leb (operator_width * h.operators) n.operators r.operators))))
 
 module _ (l : Lent) where
-  pub lengths-tested : long_enough l ≡ true ↔ LongEnough l
+  pub lengths_tested : long_enough l ≡ true ↔ LongEnough l
   unfolding long_enough
-  lengths-tested = room_tested (lengths_of l) l.head
+  lengths_tested = room_tested (lengths_of l) l.head
 
-  pub initial-tested : initial_kept l ≡ true ↔ ((v : ℕ) → v < l.head.variables → get_or l.initial v 0 ≤ 1)
+  pub initial_tested : initial_kept l ≡ true ↔ ((v : ℕ) → v < l.head.variables → get_or l.initial v 0 ≤ 1)
   unfolding initial_kept
-  initial-tested = (
+  initial_tested = (
     λ e v h. leb-true (get_or l.initial v 0) 1 (every_at l.head.variables test e v h),
     λ r. every_from l.head.variables test (λ v h. le-leb (get_or l.initial v 0) 1 (r v h)),
   )
@@ -150,11 +150,11 @@ module _ (l : Lent) where
       test : ℕ → Bool
       test v = leb (get_or l.initial v 0) 1
 
-  pub twins-tested :
+  pub twins_tested :
       twins_kept l ≡ true
       ↔ ((k : ℕ) → k < l.head.twins → TwinRule (l.head.variables - l.head.twins) l.twins k)
   unfolding twins_kept
-  twins-tested = (
+  twins_tested = (
     λ e k h. (twin_tested bound l.twins k).0 (every_at l.head.twins (twin_kept bound l.twins) e k h),
     λ r. every_from l.head.twins (twin_kept bound l.twins) (λ k h. (twin_tested bound l.twins k).1 (r k h)),
   )
@@ -162,14 +162,14 @@ module _ (l : Lent) where
       bound : ℕ
       bound = l.head.variables - l.head.twins
 
-  pub formulas-tested :
+  pub formulas_tested :
       formulas_kept l ≡ true
       ↔ ((i : ℕ)
       → i < l.head.formulas
       → let r = row_at l.formulas i in
       FormulaRule l.head.variables i (formula_kind r.kind) r.a r.b)
   unfolding formulas_kept formula_kept
-  formulas-tested = (
+  formulas_tested = (
     λ e i h.
         let r = row_at l.formulas i in
         formula_told l.head.variables i (formula_kind r.kind) r.a r.b
@@ -183,14 +183,14 @@ module _ (l : Lent) where
       test : ℕ → Bool
       test i = formula_kept l.head.variables i (row_at l.formulas i)
 
-  pub effects-tested :
+  pub effects_tested :
       effects_kept l ≡ true
       ↔ ((i : ℕ)
       → i < l.head.effects
       → let r = row_at l.effects i in
       EffectRule l.head.variables l.head.formulas i (effect_kind r.kind) r.a r.b)
   unfolding effects_kept effect_kept
-  effects-tested = (
+  effects_tested = (
     λ e i h.
         let r = row_at l.effects i in
         effect_told l.head.variables l.head.formulas i (effect_kind r.kind) r.a r.b
@@ -204,13 +204,13 @@ module _ (l : Lent) where
       test : ℕ → Bool
       test i = effect_kept l.head.variables l.head.formulas i (row_at l.effects i)
 
-  pub operators-tested :
+  pub operators_tested :
       operators_number l ≡ 0
       ↔ ((i : ℕ)
       → i < l.head.operators
       → OperatorRule l.head.formulas l.head.effects (operator_at l.operators i))
   unfolding operators_number
-  operators-tested = (
+  operators_tested = (
     λ e i h.
         operator_told l.head.formulas l.head.effects (operator_at l.operators i)
         (first_at l.head.operators number e i h),

@@ -26,97 +26,97 @@ pub fails_right : (a b : Bool) → b ≡ false → (a && b) ≡ false
 fails_right a b p = rw p (and_false a)
 
 module _ (bound : ℕ) (twins : List ℕ) (k : ℕ) where
-  pub twin-outside : bound ≤ get_or twins k 0 → twin_kept bound twins k ≡ false
+  pub twin_outside : bound ≤ get_or twins k 0 → twin_kept bound twins k ≡ false
   unfolding twin_kept
-  twin-outside h = fails_left (ltb (get_or twins k 0) bound) (every k (λ j. not (eqb (get_or twins j 0) (get_or twins k 0)))) (le-ltb (get_or twins k 0) bound h)
+  twin_outside h = fails_left (ltb (get_or twins k 0) bound) (every k (λ j. not (eqb (get_or twins j 0) (get_or twins k 0)))) (le-ltb (get_or twins k 0) bound h)
 
-  pub twin-again :
+  pub twin_again :
       every k (λ j. not (eqb (get_or twins j 0) (get_or twins k 0))) ≡ false → twin_kept bound twins k ≡ false
   unfolding twin_kept
-  twin-again e = fails_right (ltb (get_or twins k 0) bound) (every k (λ j. not (eqb (get_or twins j 0) (get_or twins k 0)))) e
+  twin_again e = fails_right (ltb (get_or twins k 0) bound) (every k (λ j. not (eqb (get_or twins j 0) (get_or twins k 0)))) e
 
-  pub twin-fine :
+  pub twin_fine :
       get_or twins k 0 < bound
       → every k (λ j. not (eqb (get_or twins j 0) (get_or twins k 0))) ≡ true
       → twin_kept bound twins k ≡ true
   unfolding twin_kept
-  twin-fine h e = and_both (lt-ltb (get_or twins k 0) bound h) e
+  twin_fine h e = and_both (lt-ltb (get_or twins k 0) bound h) e
 
 -- a formula row by its kind
 module _ (v i a b : ℕ) where
   abbrev Formula_words : ℕ → Bool
   Formula_words kind = formula_words_kept v i (formula_kind kind) a b
 
-  pub formula-constant : (kind : ℕ) → kind ≤ 1 → (eqb a 0 && eqb b 0) ≡ Formula_words kind
+  pub formula_constant : (kind : ℕ) → kind ≤ 1 → (eqb a 0 && eqb b 0) ≡ Formula_words kind
   unfolding formula_words_kept formula_kind
-  formula-constant zero h = refl
-  formula-constant (suc zero) h = refl
-  formula-constant (suc (suc n)) h = absurd (omega arith)
+  formula_constant zero h = refl
+  formula_constant (suc zero) h = refl
+  formula_constant (suc (suc n)) h = absurd (omega arith)
 
-  pub formula-variable : (kind : ℕ) → kind ≡ 2 → (ltb a v && eqb b 0) ≡ Formula_words kind
+  pub formula_variable : (kind : ℕ) → kind ≡ 2 → (ltb a v && eqb b 0) ≡ Formula_words kind
   unfolding formula_words_kept formula_kind
-  formula-variable kind e = rw e
+  formula_variable kind e = rw e
 
-  pub formula-not : (kind : ℕ) → kind ≡ 3 → (ltb a i && eqb b 0) ≡ Formula_words kind
+  pub formula_not : (kind : ℕ) → kind ≡ 3 → (ltb a i && eqb b 0) ≡ Formula_words kind
   unfolding formula_words_kept formula_kind
-  formula-not kind e = rw e
+  formula_not kind e = rw e
 
-  pub formula-pair : (kind : ℕ) → 4 ≤ kind → kind ≤ 7 → (ltb a i && ltb b i) ≡ Formula_words kind
+  pub formula_pair : (kind : ℕ) → 4 ≤ kind → kind ≤ 7 → (ltb a i && ltb b i) ≡ Formula_words kind
   unfolding formula_words_kept formula_kind
-  formula-pair zero l h = absurd (omega arith)
-  formula-pair (suc zero) l h = absurd (omega arith)
-  formula-pair (suc (suc zero)) l h = absurd (omega arith)
-  formula-pair (suc (suc (suc zero))) l h = absurd (omega arith)
-  formula-pair (suc (suc (suc (suc zero)))) l h = refl
-  formula-pair (suc (suc (suc (suc (suc zero))))) l h = refl
-  formula-pair (suc (suc (suc (suc (suc (suc zero)))))) l h = refl
-  formula-pair (suc (suc (suc (suc (suc (suc (suc zero))))))) l h = refl
-  formula-pair (suc (suc (suc (suc (suc (suc (suc (suc n)))))))) l h = absurd (omega arith)
+  formula_pair zero l h = absurd (omega arith)
+  formula_pair (suc zero) l h = absurd (omega arith)
+  formula_pair (suc (suc zero)) l h = absurd (omega arith)
+  formula_pair (suc (suc (suc zero))) l h = absurd (omega arith)
+  formula_pair (suc (suc (suc (suc zero)))) l h = refl
+  formula_pair (suc (suc (suc (suc (suc zero))))) l h = refl
+  formula_pair (suc (suc (suc (suc (suc (suc zero)))))) l h = refl
+  formula_pair (suc (suc (suc (suc (suc (suc (suc zero))))))) l h = refl
+  formula_pair (suc (suc (suc (suc (suc (suc (suc (suc n)))))))) l h = absurd (omega arith)
 
-  pub formula-unknown : (kind : ℕ) → 8 ≤ kind → false ≡ Formula_words kind
+  pub formula_unknown : (kind : ℕ) → 8 ≤ kind → false ≡ Formula_words kind
   unfolding formula_words_kept formula_kind
-  formula-unknown zero l = absurd (omega arith)
-  formula-unknown (suc zero) l = absurd (omega arith)
-  formula-unknown (suc (suc zero)) l = absurd (omega arith)
-  formula-unknown (suc (suc (suc zero))) l = absurd (omega arith)
-  formula-unknown (suc (suc (suc (suc zero)))) l = absurd (omega arith)
-  formula-unknown (suc (suc (suc (suc (suc zero))))) l = absurd (omega arith)
-  formula-unknown (suc (suc (suc (suc (suc (suc zero)))))) l = absurd (omega arith)
-  formula-unknown (suc (suc (suc (suc (suc (suc (suc zero))))))) l = absurd (omega arith)
-  formula-unknown (suc (suc (suc (suc (suc (suc (suc (suc n)))))))) l = refl
+  formula_unknown zero l = absurd (omega arith)
+  formula_unknown (suc zero) l = absurd (omega arith)
+  formula_unknown (suc (suc zero)) l = absurd (omega arith)
+  formula_unknown (suc (suc (suc zero))) l = absurd (omega arith)
+  formula_unknown (suc (suc (suc (suc zero)))) l = absurd (omega arith)
+  formula_unknown (suc (suc (suc (suc (suc zero))))) l = absurd (omega arith)
+  formula_unknown (suc (suc (suc (suc (suc (suc zero)))))) l = absurd (omega arith)
+  formula_unknown (suc (suc (suc (suc (suc (suc (suc zero))))))) l = absurd (omega arith)
+  formula_unknown (suc (suc (suc (suc (suc (suc (suc (suc n)))))))) l = refl
 
 -- an effect row by its kind
 module _ (v f i a b : ℕ) where
   abbrev Effect_words : ℕ → Bool
   Effect_words kind = effect_words_kept v f i (effect_kind kind) a b
 
-  pub effect-empty : (kind : ℕ) → kind ≡ 0 → (eqb a 0 && eqb b 0) ≡ Effect_words kind
+  pub effect_empty : (kind : ℕ) → kind ≡ 0 → (eqb a 0 && eqb b 0) ≡ Effect_words kind
   unfolding effect_words_kept effect_kind
-  effect-empty kind e = rw e
+  effect_empty kind e = rw e
 
-  pub effect-atom : (kind : ℕ) → 1 ≤ kind → kind ≤ 2 → (ltb a v && eqb b 0) ≡ Effect_words kind
+  pub effect_atom : (kind : ℕ) → 1 ≤ kind → kind ≤ 2 → (ltb a v && eqb b 0) ≡ Effect_words kind
   unfolding effect_words_kept effect_kind
-  effect-atom zero l h = absurd (omega arith)
-  effect-atom (suc zero) l h = refl
-  effect-atom (suc (suc zero)) l h = refl
-  effect-atom (suc (suc (suc n))) l h = absurd (omega arith)
+  effect_atom zero l h = absurd (omega arith)
+  effect_atom (suc zero) l h = refl
+  effect_atom (suc (suc zero)) l h = refl
+  effect_atom (suc (suc (suc n))) l h = absurd (omega arith)
 
-  pub effect-both : (kind : ℕ) → kind ≡ 3 → (ltb a i && ltb b i) ≡ Effect_words kind
+  pub effect_both : (kind : ℕ) → kind ≡ 3 → (ltb a i && ltb b i) ≡ Effect_words kind
   unfolding effect_words_kept effect_kind
-  effect-both kind e = rw e
+  effect_both kind e = rw e
 
-  pub effect-under : (kind : ℕ) → kind ≡ 4 → (ltb a f && ltb b i) ≡ Effect_words kind
+  pub effect_under : (kind : ℕ) → kind ≡ 4 → (ltb a f && ltb b i) ≡ Effect_words kind
   unfolding effect_words_kept effect_kind
-  effect-under kind e = rw e
+  effect_under kind e = rw e
 
-  pub effect-unknown : (kind : ℕ) → 5 ≤ kind → false ≡ Effect_words kind
+  pub effect_unknown : (kind : ℕ) → 5 ≤ kind → false ≡ Effect_words kind
   unfolding effect_words_kept effect_kind
-  effect-unknown zero l = absurd (omega arith)
-  effect-unknown (suc zero) l = absurd (omega arith)
-  effect-unknown (suc (suc zero)) l = absurd (omega arith)
-  effect-unknown (suc (suc (suc zero))) l = absurd (omega arith)
-  effect-unknown (suc (suc (suc (suc zero)))) l = absurd (omega arith)
-  effect-unknown (suc (suc (suc (suc (suc n))))) l = refl
+  effect_unknown zero l = absurd (omega arith)
+  effect_unknown (suc zero) l = absurd (omega arith)
+  effect_unknown (suc (suc zero)) l = absurd (omega arith)
+  effect_unknown (suc (suc (suc zero))) l = absurd (omega arith)
+  effect_unknown (suc (suc (suc (suc zero)))) l = absurd (omega arith)
+  effect_unknown (suc (suc (suc (suc (suc n))))) l = refl
 
 -- a row of any of the three tables is tested by its words
 pub row_tested :

@@ -10,9 +10,9 @@ use Rattle.task.specs.Table.{part}
 
 module _ (w : ℕ) (words : List ℕ) (i : ℕ) where
   module _ (inside : w * i + w ≤ length words) where
-    pub row-length : length (part w words i) ≡ w
+    pub row_length : length (part w words i) ≡ w
     unfolding part
-    row-length =
+    row_length =
         rw (le-leb (w * i + w) (length words) inside)
         (length-take-le w (drop (w * i) words) (omega (arith, length-drop (w * i) words)))
 

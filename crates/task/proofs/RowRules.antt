@@ -102,14 +102,14 @@ operator_passes f e o r =
 
 -- the number of an operator, way by way
 module _ (f e : ℕ) (o : Operator) where
-  pub number-12 : operator_kept f e o ≡ false → 12 ≡ operator_number f e o
+  pub number_12 : operator_kept f e o ≡ false → 12 ≡ operator_number f e o
   unfolding operator_number
-  number-12 a = rw a
+  number_12 a = rw a
 
-  pub number-24 : operator_kept f e o ≡ true → 200 < o.percent → 24 ≡ operator_number f e o
+  pub number_24 : operator_kept f e o ≡ true → 200 < o.percent → 24 ≡ operator_number f e o
   unfolding operator_number percent_kept
-  number-24 a h = rw (a, lt-leb o.percent 200 h)
+  number_24 a h = rw (a, lt-leb o.percent 200 h)
 
-  pub number-none : operator_kept f e o ≡ true → o.percent ≤ 200 → 0 ≡ operator_number f e o
+  pub number_none : operator_kept f e o ≡ true → o.percent ≤ 200 → 0 ≡ operator_number f e o
   unfolding operator_number percent_kept
-  number-none a h = rw (a, le-leb o.percent 200 h)
+  number_none a h = rw (a, le-leb o.percent 200 h)

@@ -13,7 +13,7 @@ use Rattle.task.specs.Rules.{no_operator}
 use Rattle.task.specs.Semantics.{Effect, sets, clears, holds, effcond, value_after, apply}
 use Rattle.task.specs.Tree.{formula_of}
 use Rattle.task.specs.Run.{operator_of, goal_holds, applicable, charge_of, charge, Progress, after_step, Stop, ended, stopped, Run, answer, run_on, plain_run, unstopped, is_plan}
-use Rattle.task.proofs.Bounded.{length-upto, getD-upto}
+use Rattle.task.proofs.Bounded.{length_upto, getD_upto}
 
 -- the precondition of operator o holds in state s
 abbrev pub permits : Task → List ℕ → ℕ → Bool
@@ -174,9 +174,9 @@ module _ (t : Task) (s numbers : List ℕ) where
   halts_by h = record { stops = h; answers = stops_answer h; alone = does_answer h.done }
 
   -- by the stop that it tells
-  pub ended-run : (plain_run t s numbers).stop ≡ ended → Ends t s numbers
+  pub ended_run : (plain_run t s numbers).stop ≡ ended → Ends t s numbers
   unfolding answer
-  ended-run e = go (ways t numbers (start s))
+  ended_run e = go (ways t numbers (start s))
     where
       go : Ways t (start s) numbers → Ends t s numbers
       go (ends d) = ends_by d
@@ -185,9 +185,9 @@ module _ (t : Task) (s numbers : List ℕ) where
           let z : ◌≡◌ {A = ℕ} 0 1 = cc in
           absurd (omega arith)
 
-  pub stopped-run : {n : ℕ} → (plain_run t s numbers).stop ≡ stopped n → Halts t s numbers n
+  pub stopped_run : {n : ℕ} → (plain_run t s numbers).stop ≡ stopped n → Halts t s numbers n
   unfolding answer
-  stopped-run {n} e = go (ways t numbers (start s))
+  stopped_run {n} e = go (ways t numbers (start s))
     where
       go : Ways t (start s) numbers → Halts t s numbers n
       go (ends d) =
@@ -212,10 +212,10 @@ module _ (t : Task) (s numbers : List ℕ) where
 
 module _ (t : Task) (s front : List ℕ) (o : ℕ) where
   -- each number of a run that is not stopped was done so
-  pub each-follows : (rest : List ℕ) → (plain_run t s (front ++ (o ∷ rest))).stop ≡ ended → Follows t s front o
+  pub each_follows : (rest : List ℕ) → (plain_run t s (front ++ (o ∷ rest))).stop ≡ ended → Follows t s front o
   unfolding ends_by
-  each-follows rest e =
-      let h = halfway front (ended-run t s (front ++ (o ∷ rest)) e).done in
+  each_follows rest e =
+      let h = halfway front (ended_run t s (front ++ (o ∷ rest)) e).done in
       go h.first h.then
     where
       go : {m q : Progress} → Does t (start s) front m → Does t m (o ∷ rest) q → Follows t s front o
@@ -237,19 +237,19 @@ plan_exactly_if r = go r.stop refl
 
 -- Each variable after an effect: 1 if effcond(set) holds, else 0 if effcond(clear) holds, else what it was.
 module _ (s : List ℕ) (e : Effect) where
-  pub length-after : length (apply s e) ≡ length s
+  pub length_after : length (apply s e) ≡ length s
   unfolding apply
-  length-after = length-upto (length s) (value_after s e)
+  length_after = length_upto (length s) (value_after s e)
 
   module _ (v : ℕ) (below : v < length s) where
-    pub becomes-one : effcond s (sets v) e ≡ true → get_or (apply s e) v 0 ≡ 1
+    pub becomes_one : effcond s (sets v) e ≡ true → get_or (apply s e) v 0 ≡ 1
     unfolding apply value_after
-    becomes-one h = getD-upto (length s) (value_after s e) v 0 below ∙ rw h
+    becomes_one h = getD_upto (length s) (value_after s e) v 0 below ∙ rw h
 
-    pub becomes-zero : effcond s (sets v) e ≡ false → effcond s (clears v) e ≡ true → get_or (apply s e) v 0 ≡ 0
+    pub becomes_zero : effcond s (sets v) e ≡ false → effcond s (clears v) e ≡ true → get_or (apply s e) v 0 ≡ 0
     unfolding apply value_after
-    becomes-zero h g = getD-upto (length s) (value_after s e) v 0 below ∙ rw (h, g)
+    becomes_zero h g = getD_upto (length s) (value_after s e) v 0 below ∙ rw (h, g)
 
     pub keeps : effcond s (sets v) e ≡ false → effcond s (clears v) e ≡ false → get_or (apply s e) v 0 ≡ get_or s v 0
     unfolding apply value_after
-    keeps h g = getD-upto (length s) (value_after s e) v 0 below ∙ rw (h, g)
+    keeps h g = getD_upto (length s) (value_after s e) v 0 below ∙ rw (h, g)

@@ -13,7 +13,7 @@ use Rattle.task.specs.Table.{or_kind, implies_kind, equivalent_kind, unknown_for
 use Rattle.task.specs.Rules.{no_row, no_operator, FormulaRule, EffectRule, Checked, word_limit, RowWords, OperatorWords, Rules, LentWords, LongEnough}
 use Rattle.task.specs.Words.{joined, row_words, operator_row_words, words_of, operator_words, lent_of}
 use Rattle.task.proofs.KindNumbers.{HasFormulaNumber, formula_number, HasEffectNumber, effect_number}
-use Rattle.task.proofs.Held.{length-operators, operator-held}
+use Rattle.task.proofs.Held.{length_operators, operator_held}
 
 formula_small : (v i : ℕ) (r : Row) → v ≤ 512 → i < 4096 → FormulaRule v i (formula_kind r.kind) r.a r.b → RowWords r
 formula_small v i r few row rule = go (formula_kind r.kind) (formula_number r.kind) rule
@@ -109,8 +109,8 @@ pub lent_rules : (l : Lent) → LentWords l → LongEnough l → Checked (task_o
 unfolding operator_at
 lent_rules l words long c =
     rules_with_costs (task_of l) c (λ i h.
-    let b : i < l.head.operators = rw (length-operators l) at h in
-    rw (operator-held l i b) (omega (arith, words.operators (operator_width * i + 2) (omega (arith, long.operators)))))
+    let b : i < l.head.operators = rw (length_operators l) at h in
+    rw (operator_held l i b) (omega (arith, words.operators (operator_width * i + 2) (omega (arith, long.operators)))))
 
 -- what holds of each word of each element's words holds of each word of all
 joined_each :

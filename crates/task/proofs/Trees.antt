@@ -52,63 +52,63 @@ effect_node_same v f i unknown_effect a b r formula left right = absurd r
 
 module _ (v : ℕ) (rows : List Row) (down : FormulasDown v rows) where
   -- any two depths that are deep enough give the same tree
-  formula-deep :
+  formula_deep :
       (d e i : ℕ) → i < d → i < e → i < length rows → formula_within d rows i ≡ formula_within e rows i
   unfolding formula_within
-  formula-deep zero e i h g b = absurd (not-suc-le-zero h)
-  formula-deep (suc d) zero i h g b = absurd (not-suc-le-zero g)
-  formula-deep (suc d) (suc e) i h g b =
+  formula_deep zero e i h g b = absurd (not-suc-le-zero h)
+  formula_deep (suc d) zero i h g b = absurd (not-suc-le-zero g)
+  formula_deep (suc d) (suc e) i h g b =
       let r = get_or rows i no_row in
       formula_node_same v i (formula_kind r.kind) r.a r.b (down.row i b)
-      (λ l. formula-deep d e r.a (omega arith) (omega arith) (omega arith))
-      (λ l. formula-deep d e r.b (omega arith) (omega arith) (omega arith))
+      (λ l. formula_deep d e r.a (omega arith) (omega arith) (omega arith))
+      (λ l. formula_deep d e r.b (omega arith) (omega arith) (omega arith))
 
-  pub formula-unfolds :
+  pub formula_unfolds :
       (i : ℕ)
       → i < length rows
       → let r = get_or rows i no_row in
       formula_of rows i ≡ formula_node (formula_kind r.kind) r.a (formula_of rows r.a) (formula_of rows r.b)
   unfolding formula_of formula_within
-  formula-unfolds i b =
+  formula_unfolds i b =
       let r = get_or rows i no_row in
       formula_node_same v i (formula_kind r.kind) r.a r.b (down.row i b)
-      (λ l. formula-deep i (suc r.a) r.a l (omega arith) (omega arith))
-      (λ l. formula-deep i (suc r.b) r.b l (omega arith) (omega arith))
+      (λ l. formula_deep i (suc r.a) r.a l (omega arith) (omega arith))
+      (λ l. formula_deep i (suc r.b) r.b l (omega arith) (omega arith))
 
-  formula-grows-within :
+  formula_grows_within :
       (d : ℕ) (more : List Row) (i : ℕ)
       → i < length rows
       → formula_within d (rows ++ more) i ≡ formula_within d rows i
   unfolding formula_within
-  formula-grows-within zero more i b = refl
-  formula-grows-within (suc d) more i b =
+  formula_grows_within zero more i b = refl
+  formula_grows_within (suc d) more i b =
       let r = get_or rows i no_row in
       rw (get_or-append rows more no_row i b)
       (formula_node_same v i (formula_kind r.kind) r.a r.b (down.row i b)
-      (λ l. formula-grows-within d more r.a (omega arith))
-      (λ l. formula-grows-within d more r.b (omega arith)))
+      (λ l. formula_grows_within d more r.a (omega arith))
+      (λ l. formula_grows_within d more r.b (omega arith)))
 
-  pub formula-grows : (more : List Row) (i : ℕ) → i < length rows → formula_of (rows ++ more) i ≡ formula_of rows i
+  pub formula_grows : (more : List Row) (i : ℕ) → i < length rows → formula_of (rows ++ more) i ≡ formula_of rows i
   unfolding formula_of
-  formula-grows more i b = formula-grows-within (suc i) more i b
+  formula_grows more i b = formula_grows_within (suc i) more i b
 
 module _ (v f : ℕ) (formulas effects : List Row) (down : EffectsDown v f effects) where
-  effect-deep :
+  effect_deep :
       (d e i : ℕ)
       → i < d
       → i < e
       → i < length effects
       → effect_within d formulas effects i ≡ effect_within e formulas effects i
   unfolding effect_within
-  effect-deep zero e i h g b = absurd (not-suc-le-zero h)
-  effect-deep (suc d) zero i h g b = absurd (not-suc-le-zero g)
-  effect-deep (suc d) (suc e) i h g b =
+  effect_deep zero e i h g b = absurd (not-suc-le-zero h)
+  effect_deep (suc d) zero i h g b = absurd (not-suc-le-zero g)
+  effect_deep (suc d) (suc e) i h g b =
       let r = get_or effects i no_row in
       effect_node_same v f i (effect_kind r.kind) r.a r.b (down.row i b) (λ l. refl)
-      (λ l. effect-deep d e r.a (omega arith) (omega arith) (omega arith))
-      (λ l. effect-deep d e r.b (omega arith) (omega arith) (omega arith))
+      (λ l. effect_deep d e r.a (omega arith) (omega arith) (omega arith))
+      (λ l. effect_deep d e r.b (omega arith) (omega arith) (omega arith))
 
-  pub effect-unfolds :
+  pub effect_unfolds :
       (i : ℕ)
       → i < length effects
       → let r = get_or effects i no_row in
@@ -116,45 +116,45 @@ module _ (v f : ℕ) (formulas effects : List Row) (down : EffectsDown v f effec
       ≡ effect_node (effect_kind r.kind) r.a (formula_of formulas r.a) (effect_of formulas effects r.a)
       (effect_of formulas effects r.b)
   unfolding effect_of effect_within
-  effect-unfolds i b =
+  effect_unfolds i b =
       let r = get_or effects i no_row in
       effect_node_same v f i (effect_kind r.kind) r.a r.b (down.row i b) (λ l. refl)
-      (λ l. effect-deep i (suc r.a) r.a l (omega arith) (omega arith))
-      (λ l. effect-deep i (suc r.b) r.b l (omega arith) (omega arith))
+      (λ l. effect_deep i (suc r.a) r.a l (omega arith) (omega arith))
+      (λ l. effect_deep i (suc r.b) r.b l (omega arith) (omega arith))
 
-  effect-appends-within :
+  effect_appends_within :
       (d : ℕ) (more : List Row) (i : ℕ)
       → i < length effects
       → effect_within d formulas (effects ++ more) i ≡ effect_within d formulas effects i
   unfolding effect_within
-  effect-appends-within zero more i b = refl
-  effect-appends-within (suc d) more i b =
+  effect_appends_within zero more i b = refl
+  effect_appends_within (suc d) more i b =
       let r = get_or effects i no_row in
       rw (get_or-append effects more no_row i b)
       (effect_node_same v f i (effect_kind r.kind) r.a r.b (down.row i b) (λ l. refl)
-      (λ l. effect-appends-within d more r.a (omega arith))
-      (λ l. effect-appends-within d more r.b (omega arith)))
+      (λ l. effect_appends_within d more r.a (omega arith))
+      (λ l. effect_appends_within d more r.b (omega arith)))
 
   -- whatever the formulas are
-  pub effect-appends :
+  pub effect_appends :
       (more : List Row) (i : ℕ)
       → i < length effects
       → effect_of formulas (effects ++ more) i ≡ effect_of formulas effects i
   unfolding effect_of
-  effect-appends more i b = effect-appends-within (suc i) more i b
+  effect_appends more i b = effect_appends_within (suc i) more i b
 
   -- also when the formulas grow: an effect names formulas that are there
   module _ (w : ℕ) (formulas-down : FormulasDown w formulas) (there : f ≤ length formulas) where
-    effect-grows-within :
+    effect_grows_within :
         (d : ℕ) (more-formulas more : List Row) (i : ℕ)
         → i < length effects
         → effect_within d (formulas ++ more-formulas) (effects ++ more) i ≡ effect_within d formulas effects i
     unfolding effect_within
-    effect-grows-within zero more-formulas more i b = refl
-    effect-grows-within (suc d) more-formulas more i b =
+    effect_grows_within zero more-formulas more i b = refl
+    effect_grows_within (suc d) more-formulas more i b =
         let r = get_or effects i no_row in
         rw (get_or-append effects more no_row i b)
         (effect_node_same v f i (effect_kind r.kind) r.a r.b (down.row i b)
-        (λ l. formula-grows w formulas formulas-down more-formulas r.a (omega arith))
-        (λ l. effect-grows-within d more-formulas more r.a (omega arith))
-        (λ l. effect-grows-within d more-formulas more r.b (omega arith)))
+        (λ l. formula_grows w formulas formulas-down more-formulas r.a (omega arith))
+        (λ l. effect_grows_within d more-formulas more r.a (omega arith))
+        (λ l. effect_grows_within d more-formulas more r.b (omega arith)))

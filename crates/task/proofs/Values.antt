@@ -14,7 +14,7 @@ use Rattle.task.specs.Table.{Row, FormulaKind, false_kind, true_kind, variable_k
 use Rattle.task.specs.Rules.{no_row, FormulaRule}
 use Rattle.task.specs.Semantics.{Formula, holds}
 use Rattle.task.specs.Tree.{formula_node, formula_of}
-use Rattle.task.proofs.Trees.{formula-unfolds}
+use Rattle.task.proofs.Trees.{formula_unfolds}
 use Rattle.task.specs.Inner.Rows.{FormulasDown}
 use Rattle.task.specs.Inner.Values.{bit, told, kind_value, row_value, values, Values}
 
@@ -55,17 +55,17 @@ kind_value_holds v i s bytes equivalent_kind a b p q r left right = ap₂ beq (l
 kind_value_holds v i s bytes unknown_formula a b p q r left right = absurd r
 
 module _ (v : ℕ) (rows : List Row) (down : FormulasDown v rows) (s : List ℕ) where
-  pub value-step :
+  pub value_step :
       (i : ℕ) (bytes : List ℕ)
       → i < length rows
       → Values s rows i bytes
       → row_value s bytes (get_or rows i no_row) ≡ holds s (formula_of rows i)
   unfolding row_value
-  value-step i bytes h so_far =
+  value_step i bytes h so_far =
       let r = get_or rows i no_row in
       kind_value_holds v i s bytes (formula_kind r.kind) r.a r.b (formula_of rows r.a) (formula_of rows r.b)
       (down.row i h) (λ l. value_told so_far r.a l) (λ l. value_told so_far r.b l)
-      ∙ ap (holds s) (sym (formula-unfolds v rows down i h))
+      ∙ ap (holds s) (sym (formula_unfolds v rows down i h))
 
 -- A loop's invariant: none at first, and one more.
 pub values_none : (s : List ℕ) (rows : List Row) (bytes : List ℕ) → Values s rows 0 bytes
@@ -95,17 +95,17 @@ length_values s rows (suc n) =
 
 module _ (v : ℕ) (rows : List Row) (down : FormulasDown v rows) (s : List ℕ) where
   -- a loop that stores row i's value at byte i
-  pub values-stored :
+  pub values_stored :
       (i : ℕ) (bytes : List ℕ)
       → i < length rows
       → i < length bytes
       → Values s rows i bytes
       → Values s rows (i + 1) (set bytes i (bit (row_value s bytes (get_or rows i no_row))))
-  values-stored i bytes h room so_far =
+  values_stored i bytes h room so_far =
       let now = bit (row_value s bytes (get_or rows i no_row)) in
       values_one_more s rows i bytes (set bytes i now) so_far
       (λ j l. get_or-set_other bytes i j now 0 (λ e. omega arith))
-      (get_or-set_same bytes i now 0 room ∙ ap bit (value-step v rows down s i bytes h so_far))
+      (get_or-set_same bytes i now 0 room ∙ ap bit (value_step v rows down s i bytes h so_far))
 
   pub values_agree : (n : ℕ) → n ≤ length rows → Values s rows n (values s rows n)
   unfolding values
@@ -117,4 +117,4 @@ module _ (v : ℕ) (rows : List Row) (down : FormulasDown v rows) (s : List ℕ)
       rw (← add-one n)
       (values_one_more s rows n before (before ++ (now ∷ [])) so_far
       (λ j l. get_or-append before (now ∷ []) 0 j (rw (length_values s rows n) l))
-      (get_or_at before now [] 0 n (length_values s rows n) ∙ ap bit (value-step v rows down s n before (omega arith) so_far)))
+      (get_or_at before now [] 0 n (length_values s rows n) ∙ ap bit (value_step v rows down s n before (omega arith) so_far)))

@@ -11,8 +11,8 @@ use Rattle.task.specs.Table.{Row, Operator, operator_width, operator, Lent, Task
 use Rattle.task.specs.Check.{refusal}
 use Rattle.task.specs.Rules.{no_row, no_operator, Checked, LongEnough}
 use Rattle.task.specs.Words.{joined, row_words, operator_row_words, words_of, operator_words, head_of, lent_of}
-use Rattle.task.proofs.Bounded.{length-upto, getD-upto}
-use Rattle.task.proofs.Kept.{rules-kept}
+use Rattle.task.proofs.Bounded.{length_upto, getD_upto}
+use Rattle.task.proofs.Kept.{rules_kept}
 
 pub joined_append :
     {A : Type 0} (f : A → List ℕ) (xs ys : List A) → joined f (xs ++ ys) ≡ joined f xs ++ joined f ys
@@ -22,10 +22,10 @@ joined_append f (x ∷ xs) ys = rw (joined_append f xs ys) (sym (append_assoc (f
 
 -- Rows of w words.
 module _ {A : Type 0} (f : A → List ℕ) (w : ℕ) (wide : (x : A) → length (f x) ≡ w) where
-  length-joined : (xs : List A) → length (joined f xs) ≡ w * length xs
+  length_joined : (xs : List A) → length (joined f xs) ≡ w * length xs
   unfolding joined
-  length-joined [] = omega (arith, mul-zero w)
-  length-joined (x ∷ xs) = length-append (f x) (joined f xs) ∙ omega (arith, wide x, length-joined xs, mul-suc w (length xs))
+  length_joined [] = omega (arith, mul-zero w)
+  length_joined (x ∷ xs) = length-append (f x) (joined f xs) ∙ omega (arith, wide x, length_joined xs, mul-suc w (length xs))
 
   joined_at :
       (xs : List A) (tail : List ℕ) (d : A) (i k n : ℕ)
@@ -47,11 +47,11 @@ module _ {A : Type 0} (f : A → List ℕ) (w : ℕ) (wide : (x : A) → length 
 
 pub length_words : (rows : List Row) → length (words_of rows) ≡ 3 * length rows
 unfolding words_of row_words
-length_words rows = length-joined row_words 3 (λ r. refl) rows
+length_words rows = length_joined row_words 3 (λ r. refl) rows
 
 pub length_operator_words : (operators : List Operator) → length (operator_words operators) ≡ operator_width * length operators
 unfolding operator_words operator_row_words
-length_operator_words operators = length-joined operator_row_words operator_width (λ o. refl) operators
+length_operator_words operators = length_joined operator_row_words operator_width (λ o. refl) operators
 
 -- an operator is what its words say
 pub operator_by_words : {p e c r : ℕ} (o : Operator) → operator_row_words o ≡ p ∷ e ∷ c ∷ r ∷ [] → o ≡ operator p e c r
@@ -113,9 +113,9 @@ operator_read operators tail i h =
 -- a list is made again from its elements
 upto_getD : {A : Type 0} (xs : List A) (f : ℕ → A) (d : A) → ((i : ℕ) → i < length xs → f i ≡ get_or xs i d) → upto (length xs) f ≡ xs
 upto_getD xs f d same =
-    ext_get_or d (upto (length xs) f) xs (length-upto (length xs) f) (λ i h.
-    let b : i < length xs = rw (length-upto (length xs) f) at h in
-    getD-upto (length xs) f i d b ∙ same i b)
+    ext_get_or d (upto (length xs) f) xs (length_upto (length xs) f) (λ i h.
+    let b : i < length xs = rw (length_upto (length xs) f) at h in
+    getD_upto (length xs) f i d b ∙ same i b)
 
 pub rows_read : (rows : List Row) (tail : List ℕ) → upto (length rows) (row_at (words_of rows ++ tail)) ≡ rows
 rows_read rows tail = upto_getD rows (row_at (words_of rows ++ tail)) no_row (row_read rows tail)
@@ -139,9 +139,9 @@ module _ (t : Task) (i w f e o : List ℕ) where
         operators = operator_words t.operators ++ o;
       }
 
-  pub task-in : task_of lent_in ≡ t
+  pub task_in : task_of lent_in ≡ t
   unfolding task_of lent_in head_of
-  task-in =
+  task_in =
       λ j.
       record {
         initial = take-append_seam t.initial i j;
@@ -152,9 +152,9 @@ module _ (t : Task) (i w f e o : List ℕ) where
         goal = t.goal;
       }
 
-  pub long-in : LongEnough lent_in
+  pub long_in : LongEnough lent_in
   unfolding lent_in head_of
-  long-in =
+  long_in =
       record {
         initial = omega (arith, length-append t.initial i);
         twins = omega (arith, length-append t.originals w);
@@ -164,7 +164,7 @@ module _ (t : Task) (i w f e o : List ℕ) where
       }
 
   pub kept_in : Checked t → refusal lent_in ≡ 0
-  kept_in r = rules-kept lent_in long-in (rw task-in r)
+  kept_in r = rules_kept lent_in long_in (rw task_in r)
 
 pub lent_exactly : (t : Task) → lent_in t [] [] [] [] [] ≡ lent_of t
 unfolding lent_in lent_of
@@ -180,7 +180,7 @@ lent_exactly t =
     }
 
 pub task_of_lent : (t : Task) → task_of (lent_of t) ≡ t
-task_of_lent t = ap task_of (sym (lent_exactly t)) ∙ task-in t [] [] [] [] []
+task_of_lent t = ap task_of (sym (lent_exactly t)) ∙ task_in t [] [] [] [] []
 
 pub lent_kept : (t : Task) → Checked t → refusal (lent_of t) ≡ 0
 lent_kept t r = ap refusal (sym (lent_exactly t)) ∙ kept_in t [] [] [] [] [] r

@@ -23,24 +23,24 @@ part_there : {n at : ℕ} {file : List ℕ} {o : Parsed (List ℕ)} {r : Place} 
 part_there {n} {at} {file} {o} {r} {b} {a} p e = sym p.told ∙ ap (place_told file (take n a)) e
 
 module _ (h : Head) (file : List ℕ) (at : ℕ) (f e o : List ℕ) where
-  pub formulas-lost :
+  pub formulas_lost :
       {f' : List ℕ} {r : Place} {n : ℕ}
       → ReadPart (3 * h.formulas) file (words_read Formulas h h.formulas (drop at file)) r f f'
       → r ≡ Nowhere n
       → RowsFilled h file at r f e o f' e o
   unfolding rows_behind next
-  formulas-lost {f'} p q =
+  formulas_lost {f'} p q =
       record { told = rw (part_lost p q, q); formulas_behind = p.behind; effects_behind = refl; operators_behind = refl }
 
   module _ {f' : List ℕ} {r1 : Place} {x : ℕ} (p1 : ReadPart (3 * h.formulas) file (words_read Formulas h h.formulas (drop at file)) r1 f f')
       (q1 : r1 ≡ At x) where
-    pub effects-lost :
+    pub effects_lost :
         {e' : List ℕ} {r : Place} {n : ℕ}
         → ReadPart (3 * h.effects) file (words_read Effects h h.effects (drop x file)) r e e'
         → r ≡ Nowhere n
         → RowsFilled h file at r f e o f' e' o
     unfolding rows_behind next
-    effects-lost p q =
+    effects_lost p q =
         record { told = rw (part_there p1 q1, part_lost p q, q); formulas_behind = p1.behind; effects_behind = p.behind; operators_behind = refl }
 
     module _ {e' : List ℕ} {r2 : Place} {y : ℕ} (p2 : ReadPart (3 * h.effects) file (words_read Effects h h.effects (drop x file)) r2 e e')
@@ -56,13 +56,13 @@ module _ (h : Head) (file : List ℕ) (at : ℕ) (f e o : List ℕ) where
           record { told = rw (part_there p1 q1, part_there p2 q2, part_lost p refl); formulas_behind = p1.behind; effects_behind = p2.behind; operators_behind = p.behind }
 
 module _ (h : Head) (file : List ℕ) (at : ℕ) (i w f e o : List ℕ) where
-  pub initial-lost :
+  pub initial_lost :
       {i' : List ℕ} {r : Place} {n : ℕ}
       → ReadPart h.variables file (initial_read h.variables (drop at file)) r i i'
       → r ≡ Nowhere n
       → AllFilled h file at r i w f e o i' w f e o
   unfolding all_behind next
-  initial-lost p q =
+  initial_lost p q =
       record {
         told = rw (part_lost p q, q);
         initial_behind = p.behind;
@@ -73,13 +73,13 @@ module _ (h : Head) (file : List ℕ) (at : ℕ) (i w f e o : List ℕ) where
       }
 
   module _ {i' : List ℕ} {r1 : Place} {x : ℕ} (p1 : ReadPart h.variables file (initial_read h.variables (drop at file)) r1 i i') (q1 : r1 ≡ At x) where
-    pub twins-lost :
+    pub twins_lost :
         {w' : List ℕ} {r : Place} {n : ℕ}
         → ReadPart h.twins file (table_read (twin_read (h.variables - h.twins)) h.twins (drop x file)) r w w'
         → r ≡ Nowhere n
         → AllFilled h file at r i w f e o i' w' f e o
     unfolding all_behind next
-    twins-lost p q =
+    twins_lost p q =
         record {
           told = rw (part_there p1 q1, part_lost p q, q);
           initial_behind = p1.behind;
@@ -117,8 +117,8 @@ module _ (h : Head) (file : List ℕ) (at : ℕ) (i w f e o : List ℕ) where
 
 -- the words of every table are those of the task that is read
 module _ (W : List ℕ → Parsed (List ℕ)) (F E : List ℕ → Parsed (List Row)) (O : List ℕ → Parsed (List Operator)) (goal : ℕ) where
-  task-nest : Parsed (List ℕ) → Parsed Task
-  task-nest oi =
+  task_nest : Parsed (List ℕ) → Parsed Task
+  task_nest oi =
       next oi
       (λ initial rest.
       next (W rest)
@@ -139,8 +139,8 @@ module _ (W : List ℕ → Parsed (List ℕ)) (F E : List ℕ → Parsed (List R
         goal = goal;
       }))))))
 
-  words-nest : Parsed (List ℕ) → Parsed AllTables
-  words-nest oi =
+  words_nest : Parsed (List ℕ) → Parsed AllTables
+  words_nest oi =
       next oi
       (λ i rest.
       next (W rest)
@@ -153,13 +153,13 @@ module _ (W : List ℕ → Parsed (List ℕ)) (F E : List ℕ → Parsed (List R
       next (next (O rest) (λ rows. parsed (operator_words rows))) (λ o. parsed (record { formulas = f; effects = e; operators = o })))))
       (λ r. parsed (record { initial = i; twins = w; rows = r }))))
 
-  nests : (oi : Parsed (List ℕ)) → words-nest oi ≡ next (task-nest oi) (λ t. parsed (all_words t))
-  unfolding words-nest task-nest next
+  nests : (oi : Parsed (List ℕ)) → words_nest oi ≡ next (task_nest oi) (λ t. parsed (all_words t))
+  unfolding words_nest task_nest next
   nests (unparsed n) = refl
   nests (parsed i rest) = go1 (W rest) refl
     where
       Goal : Type 0
-      Goal = words-nest (parsed i rest) ≡ next (task-nest (parsed i rest)) (λ t. parsed (all_words t))
+      Goal = words_nest (parsed i rest) ≡ next (task_nest (parsed i rest)) (λ t. parsed (all_words t))
 
       go4 : (w r1 : List ℕ) → W rest ≡ parsed w r1 → (f : List Row) (r2 : List ℕ) → F r1 ≡ parsed f r2 → (e : List Row) (r3 : List ℕ) → E r2 ≡ parsed e r3 → (o : Parsed (List Operator)) → O r3 ≡ o → Goal
       go4 w r1 e1 f r2 e2 e r3 e3 (unparsed n) e4 = rw (e1, e2, e3, e4)
@@ -178,7 +178,7 @@ module _ (W : List ℕ → Parsed (List ℕ)) (F E : List ℕ → Parsed (List R
       go1 (parsed w r1) e1 = go2 w r1 e1 (F r1) refl
 
 pub all_read : (h : Head) (bytes : List ℕ) → all_behind h bytes ≡ next (tables_read h bytes) (λ t. parsed (all_words t))
-unfolding all_behind rows_behind tables_read words-nest task-nest
+unfolding all_behind rows_behind tables_read words_nest task_nest
 all_read h bytes =
     nests (table_read (twin_read (h.variables - h.twins)) h.twins) (table_read (formula_read h.variables) h.formulas)
     (table_read (effect_read h.variables h.formulas) h.effects) (table_read (operator_read h.formulas h.effects) h.operators) h.goal

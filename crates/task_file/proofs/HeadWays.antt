@@ -31,14 +31,14 @@ head_ends file e =
     rw (byte_ends file 0 h)
 
 module _ (file : List ℕ) (some : 0 < length file) where
-  pub head-unclear : 64 ≤ get_or file 0 0 → head_read file ≡ unparsed 2
+  pub head_unclear : 64 ≤ get_or file 0 0 → head_read file ≡ unparsed 2
   unfolding head_read mapped_read next kept
-  head-unclear h = rw (byte_here file 0 some, le-ltb (get_or file 0 0) 64 h)
+  head_unclear h = rw (byte_here file 0 some, le-ltb (get_or file 0 0) 64 h)
 
   module _ (clear : get_or file 0 0 < 64) where
-    pub lower-refused : {n : ℕ} → fields_read zeros (get_or file 0 0) (drop 1 file) ≡ unparsed n → head_read file ≡ unparsed n
+    pub lower_refused : {n : ℕ} → fields_read zeros (get_or file 0 0) (drop 1 file) ≡ unparsed n → head_read file ≡ unparsed n
     unfolding head_read mapped_read next kept
-    lower-refused e = rw (byte_here file 0 some, lt-ltb (get_or file 0 0) 64 clear, six_split (get_or file 0 0) (drop 1 file), e)
+    lower_refused e = rw (byte_here file 0 some, lt-ltb (get_or file 0 0) 64 clear, six_split (get_or file 0 0) (drop 1 file), e)
 
     module _ {a b c : ℕ} {rest : List ℕ} (lower : fields_read zeros (get_or file 0 0) (drop 1 file) ≡ parsed (a ∷ b ∷ c ∷ []) rest) where
       pub upper-refused : {n : ℕ} → fields_read zeros (get_or file 0 0 / 8) rest ≡ unparsed n → head_read file ≡ unparsed n
@@ -71,9 +71,9 @@ module _ (l : Lengths) (file : List ℕ) where
     unfolding next head_kept kept
     five e f g = rw (there, e, f, g)
 
-    pub all-kept : counts_kept h ≡ true → goal_kept h ≡ true → room l h ≡ true → next (head_read file) (head_kept l) ≡ parsed h rest
+    pub all_kept : counts_kept h ≡ true → goal_kept h ≡ true → room l h ≡ true → next (head_read file) (head_kept l) ≡ parsed h rest
     unfolding next head_kept kept
-    all-kept e f g = rw (there, e, f, g)
+    all_kept e f g = rw (there, e, f, g)
 
 -- a length that is not 0
 pub pos : {n : ℕ} → (n ≡ 0 → ⊥) → 0 < n

@@ -28,56 +28,56 @@ module _ (p : ℕ → Parsed (List ℕ)) (q : ℕ → List ℕ → List ℕ → 
   unfolding next
   one_more i e f = rw (add-one i, step i, e, f)
 
-  still-refused : (i : ℕ) {n : ℕ} → p i ≡ unparsed n → p (suc i) ≡ unparsed n
+  still_refused : (i : ℕ) {n : ℕ} → p i ≡ unparsed n → p (suc i) ≡ unparsed n
   unfolding next
-  still-refused i e = rw (step i, e)
+  still_refused i e = rw (step i, e)
 
-  from-there : (i : ℕ) {n : ℕ} → p i ≡ unparsed n → (count : ℕ) → i ≤ count → p count ≡ unparsed n
-  from-there i e zero h = rw (← (lt-one i h)) e
+  from_there : (i : ℕ) {n : ℕ} → p i ≡ unparsed n → (count : ℕ) → i ≤ count → p count ≡ unparsed n
+  from_there i e zero h = rw (← (lt-one i h)) e
     where
       lt-one : (k : ℕ) → k ≤ 0 → k ≡ 0
       lt-one k h = omega arith
-  from-there i {n} e (suc count) h = go (from-there i e count) (dec_lt count i)
+  from_there i {n} e (suc count) h = go (from_there i e count) (dec_lt count i)
     where
       go : (i ≤ count → p count ≡ unparsed n) → Dec (count < i) → p (suc count) ≡ unparsed n
       go ih (yes l) =
           let same : i ≡ suc count = omega arith in
           rw (← same) e
-      go ih (no m) = still-refused count (ih (omega arith))
+      go ih (no m) = still_refused count (ih (omega arith))
 
   pub stopped : (i : ℕ) {ws rest : List ℕ} {n : ℕ} → p i ≡ parsed ws rest → q i ws rest ≡ unparsed n → (count : ℕ) → i < count → p count ≡ unparsed n
   unfolding next
-  stopped i e f count h = from-there (suc i) (rw (step i, e, f)) count h
+  stopped i e f count h = from_there (suc i) (rw (step i, e, f)) count h
 
 -- rows of a table as words
 module _ {A : Type 0} (row : List ℕ → Parsed A) (words : A → List ℕ) where
-  snoc-words : (done : List A) (r : A) → joined words (done ++ (r ∷ [])) ≡ joined words done ++ words r
+  snoc_words : (done : List A) (r : A) → joined words (done ++ (r ∷ [])) ≡ joined words done ++ words r
   unfolding joined
-  snoc-words done r = joined_append words done (r ∷ []) ∙ ap (λ (l : List ℕ). joined words done ++ l) (append-nil (words r))
+  snoc_words done r = joined_append words done (r ∷ []) ∙ ap (λ (l : List ℕ). joined words done ++ l) (append-nil (words r))
 
-  more-words :
+  more_words :
       (o : Parsed (List A))
       → next (next o (λ done rest. next (row rest) (λ r. parsed (done ++ (r ∷ []))))) (λ rows. parsed (joined words rows))
       ≡ next (next o (λ rows. parsed (joined words rows))) (λ ws rest. next (next (row rest) (λ r. parsed (words r))) (λ x. parsed (ws ++ x)))
   unfolding next
-  more-words (unparsed n) = refl
-  more-words (parsed done rest) = go (row rest)
+  more_words (unparsed n) = refl
+  more_words (parsed done rest) = go (row rest)
     where
       go :
           (o : Parsed A)
           → next (next o (λ r. parsed (done ++ (r ∷ [])))) (λ rows. parsed (joined words rows))
           ≡ next (next o (λ r. parsed (words r))) (λ x. parsed (joined words done ++ x))
       go (unparsed n) = refl
-      go (parsed r rest') = ap {B = Parsed (List ℕ)} (λ (l : List ℕ). parsed l rest') (snoc-words done r)
+      go (parsed r rest') = ap {B = Parsed (List ℕ)} (λ (l : List ℕ). parsed l rest') (snoc_words done r)
 
 pub rows_step :
     (h : Head) (bytes : List ℕ) (table : Table) (i : ℕ)
     → words_read table h (suc i) bytes
     ≡ next (words_read table h i bytes) (λ ws rest. next (kept_words_read table h i rest) (λ x. parsed (ws ++ x)))
 unfolding table_read words_of operator_words formula_read effect_read operator_read
-rows_step h bytes Formulas i = more-words (formula_read h.variables i []) row_words (table_read (formula_read h.variables) i bytes)
-rows_step h bytes Effects i = more-words (effect_read h.variables h.formulas i []) row_words (table_read (effect_read h.variables h.formulas) i bytes)
-rows_step h bytes Operators i = more-words (operator_read h.formulas h.effects i []) operator_row_words (table_read (operator_read h.formulas h.effects) i bytes)
+rows_step h bytes Formulas i = more_words (formula_read h.variables i []) row_words (table_read (formula_read h.variables) i bytes)
+rows_step h bytes Effects i = more_words (effect_read h.variables h.formulas i []) row_words (table_read (effect_read h.variables h.formulas) i bytes)
+rows_step h bytes Operators i = more_words (operator_read h.formulas h.effects i []) operator_row_words (table_read (operator_read h.formulas h.effects) i bytes)
 
 pub rows_none : (h : Head) (bytes : List ℕ) (table : Table) → words_read table h 0 bytes ≡ parsed [] bytes
 unfolding table_read next words_of operator_words joined
@@ -151,17 +151,17 @@ module _ (table : Table) (h : Head) (count : ℕ) (file : List ℕ) (at : ℕ) (
   none_read Effects = rows_none h (drop at file) Effects
   none_read Operators = rows_none h (drop at file) Operators
 
-  pub rows-begin : RowsDone before 0 at
-  rows-begin = record { within = omega arith; size = refl; front = none_read table; behind = refl }
+  pub rows_begin : RowsDone before 0 at
+  rows_begin = record { within = omega arith; size = refl; front = none_read table; behind = refl }
 
-  pub rows-refused :
+  pub rows_refused :
       (words : List ℕ) (i place : ℕ) {k : ℕ} {r : Place}
       → RowsDone words i place
       → i < count
       → kept_words_read table h i (drop place file) ≡ unparsed k
       → r ≡ Nowhere k
       → ReadPart (width table * count) file (words_read table h count (drop at file)) r before words
-  rows-refused words i place d l e f =
+  rows_refused words i place d l e f =
       done_refused (λ i. width table * i) rows_p rows_q (rows_step h (drop at file) table) count file before words i place d l e f words refl
 
   pub rows_end :

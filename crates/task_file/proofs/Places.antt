@@ -47,23 +47,23 @@ unfolding field_read
 field_absent default bit bytes e = rw e
 
 module _ (default bit : ℕ) (bytes : List ℕ) (there : bit ≡ 0 → ⊥) where
-  field-present : field_read default bit bytes ≡ next (word_read bytes) (λ w. kept (not (eqb w default)) 3 w)
+  field_present : field_read default bit bytes ≡ next (word_read bytes) (λ w. kept (not (eqb w default)) 3 w)
   unfolding field_read
-  field-present = go bit refl
+  field_present = go bit refl
     where
       go : (b : ℕ) → bit ≡ b → field_read default bit bytes ≡ next (word_read bytes) (λ w. kept (not (eqb w default)) 3 w)
       go zero e = absurd (there e)
       go (suc b) e = rw e
 
-  pub field-refused : {n : ℕ} → word_read bytes ≡ unparsed n → field_read default bit bytes ≡ unparsed n
+  pub field_refused : {n : ℕ} → word_read bytes ≡ unparsed n → field_read default bit bytes ≡ unparsed n
   unfolding next
-  field-refused e = rw (field-present, e)
+  field_refused e = rw (field_present, e)
 
-  pub field-needless : {w : ℕ} {rest : List ℕ} → w ≡ default → word_read bytes ≡ parsed w rest → field_read default bit bytes ≡ unparsed 3
+  pub field_needless : {w : ℕ} {rest : List ℕ} → w ≡ default → word_read bytes ≡ parsed w rest → field_read default bit bytes ≡ unparsed 3
   unfolding next kept
-  field-needless {w} z e = rw (field-present, e, eq-eqb w default z)
+  field_needless {w} z e = rw (field_present, e, eq-eqb w default z)
 
-  pub field-there :
+  pub field_there :
       {w : ℕ} {rest : List ℕ} → (w ≡ default → ⊥) → word_read bytes ≡ parsed w rest → field_read default bit bytes ≡ parsed w rest
   unfolding next kept
-  field-there {w} z e = rw (field-present, e, ne_eqb w default z)
+  field_there {w} z e = rw (field_present, e, ne_eqb w default z)

@@ -24,7 +24,7 @@ use Rattle.task_file.specs.Inner.Answers.{Cleared}
 use Rattle.task_file.specs.Outcome.{lengths, outcome_of, read_outcome, read_left}
 use Rattle.task_file.specs.Inner.Filling.{AllTables, all_words, part_told, AllRoom, AllFilled}
 use Rattle.task_file.specs.Inner.Filled.{read_answer, Holds, Filled}
-use Rattle.file_format.proofs.Parse.{Bytes, parsed-value, parsed-rest, refused-parsed, Steps, next-parsed, kept-parsed}
+use Rattle.file_format.proofs.Parse.{Bytes, parsed_value, parsed_rest, refused_parsed, Steps, next_parsed, kept_parsed}
 use Rattle.task_file.proofs.FillWays.{all_read}
 use Rattle.file_format.proofs.Whole.{tables_parsed}
 
@@ -50,28 +50,28 @@ same_task : {o : Verdict} (t u : Task) → o ≡ accepted t → o ≡ accepted u
 same_task t u e f = cc
 
 module _ (l : Lengths) (file : List ℕ) where
-  by-head : {o : Parsed Head} → next (head_read file) (head_kept l) ≡ o → task_read l file ≡ next o tables_read
+  by_head : {o : Parsed Head} → next (head_read file) (head_kept l) ≡ o → task_read l file ≡ next o tables_read
   unfolding task_read next
-  by-head {o} e = go (head_read file) refl ∙ ap (λ (p : Parsed Head). next p tables_read) e
+  by_head {o} e = go (head_read file) refl ∙ ap (λ (p : Parsed Head). next p tables_read) e
     where
       go : (p : Parsed Head) → head_read file ≡ p → task_read l file ≡ next (next (head_read file) (head_kept l)) tables_read
       go (unparsed n) q = rw q
       go (parsed h rest) q = rw q
 
   -- what the head's own rules say
-  pub head-room :
+  pub head_room :
       {h : Head} {rest i w f e o : List ℕ}
       → next (head_read file) (head_kept l) ≡ parsed h rest
       → l ≡ lengths (length i) (length w) (length f) (length e) (length o)
       → AllRoom h i w f e o
   unfolding head_kept room
-  head-room {h} {rest} q n =
-      let s = next-parsed _ _ q in
-      let s3 = next-parsed _ _ s.second in
-      let s4 = next-parsed _ _ s3.second in
-      let k3 = kept-parsed (counts_kept s.value) 6 s.value s.mid s3.first in
-      let k4 = kept-parsed (goal_kept s3.value) 7 s3.value s3.mid s4.first in
-      let k5 = kept-parsed (room l s4.value) 5 s4.value s4.mid s4.second in
+  head_room {h} {rest} q n =
+      let s = next_parsed _ _ q in
+      let s3 = next_parsed _ _ s.second in
+      let s4 = next_parsed _ _ s3.second in
+      let k3 = kept_parsed (counts_kept s.value) 6 s.value s.mid s3.first in
+      let k4 = kept_parsed (goal_kept s3.value) 7 s3.value s3.mid s4.first in
+      let k5 = kept_parsed (room l s4.value) 5 s4.value s4.mid s4.second in
       let counts : counts_kept h ≡ true = ap counts_kept (sym (k3.same ∙ k4.same ∙ k5.same)) ∙ k3.holds in
       let roomy : room l h ≡ true = ap (room l) (sym k5.same) ∙ k5.holds in
       room-told counts (rw n at roomy)
@@ -91,17 +91,17 @@ module _ (l : Lengths) (file : List ℕ) where
             few_variables = ((counts_tested h).0 c).variables;
           }
 
-  reading-lost : {n : ℕ} → task_read l file ≡ unparsed n → reading l file ≡ rejected n
+  reading_lost : {n : ℕ} → task_read l file ≡ unparsed n → reading l file ≡ rejected n
   unfolding reading at_end
-  reading-lost e = rw e
+  reading_lost e = rw e
 
   module _ {i w f e o i' w' f' e' o' : List ℕ} where
-    filled-lost : {n : ℕ} {r : ReadAnswer} → reading l file ≡ rejected n → r ≡ Refused n → Filled l file r i w f e o i' w' f' e' o'
-    filled-lost q s = record { answer = s ∙ sym (ap read_answer q); tables = λ t u. absurd (no_other t q u) }
+    filled_lost : {n : ℕ} {r : ReadAnswer} → reading l file ≡ rejected n → r ≡ Refused n → Filled l file r i w f e o i' w' f' e' o'
+    filled_lost q s = record { answer = s ∙ sym (ap read_answer q); tables = λ t u. absurd (no_other t q u) }
 
-    pub head-lost : {n : ℕ} {r : ReadAnswer} → next (head_read file) (head_kept l) ≡ unparsed n → r ≡ Refused n → Filled l file r i w f e o i' w' f' e' o'
+    pub head_lost : {n : ℕ} {r : ReadAnswer} → next (head_read file) (head_kept l) ≡ unparsed n → r ≡ Refused n → Filled l file r i w f e o i' w' f' e' o'
     unfolding next
-    head-lost q s = filled-lost (reading-lost (by-head q)) s
+    head_lost q s = filled_lost (reading_lost (by_head q)) s
 
     module _ {h : Head} {at : ℕ} {p : Place} (head : next (head_read file) (head_kept l) ≡ parsed h (drop at file))
         (filled : AllFilled h file at p i w f e o i' w' f' e' o') where
@@ -118,9 +118,9 @@ module _ (l : Lengths) (file : List ℕ) where
                 };
           }
 
-      by-tables : task_read l file ≡ tables_read h (drop at file)
+      by_tables : task_read l file ≡ tables_read h (drop at file)
       unfolding next
-      by-tables = by-head head
+      by_tables = by_head head
 
       tables-lost : {n : ℕ} → p ≡ Nowhere n → tables_read h (drop at file) ≡ unparsed n
       unfolding next X
@@ -131,24 +131,24 @@ module _ (l : Lengths) (file : List ℕ) where
               let g : ◌≡◌ {A = Parsed AllTables} (unparsed k) (unparsed n) = rw a at b in
               let kn : k ≡ n = cc in
               a ∙ ap {B = Parsed Task} unparsed kn
-          go (parsed t rest) a b = absurd (refused-parsed (sym (rw a at b)))
+          go (parsed t rest) a b = absurd (refused_parsed (sym (rw a at b)))
 
       pub table-lost : {n : ℕ} {r : ReadAnswer} → p ≡ Nowhere n → r ≡ Refused n → Filled l file r i w f e o i' w' f' e' o'
-      table-lost q s = filled-lost (reading-lost (by-tables ∙ tables-lost q)) s
+      table-lost q s = filled_lost (reading_lost (by_tables ∙ tables-lost q)) s
 
       tables-there : {end : ℕ} → p ≡ At end → Steps (tables_read h (drop at file)) (λ t. parsed (all_words t)) X (drop end file)
       unfolding X
-      tables-there q = next-parsed (tables_read h (drop at file)) (λ t. parsed (all_words t)) (sym (all_read h (drop at file)) ∙ sym filled.told ∙ ap (part_told file X) q)
+      tables-there q = next_parsed (tables_read h (drop at file)) (λ t. parsed (all_words t)) (sym (all_read h (drop at file)) ∙ sym filled.told ∙ ap (part_told file X) q)
 
       pub bytes_left : {end : ℕ} → p ≡ At end → end < length file → Filled l file (Refused 4) i w f e o i' w' f' e' o'
       unfolding reading at_end
       bytes_left {end} q b =
           let s = tables-there q in
-          let m : s.mid ≡ get_or file end 0 ∷ drop (suc end) file = parsed-rest s.second ∙ drop-cons file end 0 b in
+          let m : s.mid ≡ get_or file end 0 ∷ drop (suc end) file = parsed_rest s.second ∙ drop-cons file end 0 b in
           let t : task_read l file ≡ parsed s.value (get_or file end 0 ∷ drop (suc end) file) =
-          by-tables ∙ s.first ∙ ap {B = Parsed Task} (λ (x : List ℕ). parsed s.value x) m
+          by_tables ∙ s.first ∙ ap {B = Parsed Task} (λ (x : List ℕ). parsed s.value x) m
           in
-          filled-lost (rw t) refl
+          filled_lost (rw t) refl
 
       pub task-held :
           {end : ℕ}
@@ -161,9 +161,9 @@ module _ (l : Lengths) (file : List ℕ) where
       task-held {end} q b bytes fit =
           let s = tables-there q in
           let t = s.value in
-          let m : s.mid ≡ [] = parsed-rest s.second ∙ drop_of_length-le file b in
-          let x : all_words t ≡ X = parsed-value s.second in
-          let r : task_read l file ≡ parsed t [] = by-tables ∙ s.first ∙ ap {B = Parsed Task} (λ (y : List ℕ). parsed t y) m in
+          let m : s.mid ≡ [] = parsed_rest s.second ∙ drop_of_length-le file b in
+          let x : all_words t ≡ X = parsed_value s.second in
+          let r : task_read l file ≡ parsed t [] = by_tables ∙ s.first ∙ ap {B = Parsed Task} (λ (y : List ℕ). parsed t y) m in
           let done : reading l file ≡ accepted t = rw r in
           let head-same : head_of t ≡ h = (tables_parsed h (drop at file) (bytes_drop at file bytes) s.first).head in
           let held : Holds t i w f e o i' w' f' e' o' =
@@ -230,15 +230,15 @@ lens i w f e o = lengths (length i) (length w) (length f) (length e) (length o)
 
 -- the call itself: i, w, f, e, o as they came, cleared (1), filled (2), and after a refusal cleared again (3)
 module _ {i w f e o i1 w1 f1 e1 o1 : List ℕ} (clear : Cleared i w f e o i1 w1 f1 e1 o1) where
-  same-lengths : lens i1 w1 f1 e1 o1 ≡ lens i w f e o
-  same-lengths =
+  same_lengths : lens i1 w1 f1 e1 o1 ≡ lens i w f e o
+  same_lengths =
       λ j.
       lengths (size_of i1 i clear.initial_clear j) (size_of w1 w clear.twins_clear j) (size_of f1 f clear.formulas_clear j)
       (size_of e1 e clear.effects_clear j) (size_of o1 o clear.operators_clear j)
 
   module _ {file i2 w2 f2 e2 o2 : List ℕ} {r : ReadAnswer} (filled : Filled (lens i1 w1 f1 e1 o1) file r i1 w1 f1 e1 o1 i2 w2 f2 e2 o2) where
     again : Filled (lens i w f e o) file r i1 w1 f1 e1 o1 i2 w2 f2 e2 o2
-    again = subst (λ (l : Lengths). Filled l file r i1 w1 f1 e1 o1 i2 w2 f2 e2 o2) same-lengths filled
+    again = subst (λ (l : Lengths). Filled l file r i1 w1 f1 e1 o1 i2 w2 f2 e2 o2) same_lengths filled
 
     pub read_held : {h : Head} → r ≡ Read h → read_left (Read h) i2 w2 f2 e2 o2 ≡ read_outcome (lens i w f e o) file
     unfolding read_outcome outcome_of
@@ -261,7 +261,7 @@ module _ {i w f e o i1 w1 f1 e1 o1 : List ℕ} (clear : Cleared i w f e o i1 w1 
             (filled_zeros e e1 e2 (words_of t.effects) clear.effects_clear held.effects j)
             (filled_zeros o o1 o2 (operator_words t.operators) clear.operators_clear held.operators j))
 
-    pub read-lost :
+    pub read_lost :
         {n : ℕ} {i3 w3 f3 e3 o3 : List ℕ}
         → r ≡ Refused n
         → Cleared i2 w2 f2 e2 o2 i3 w3 f3 e3 o3
@@ -272,7 +272,7 @@ module _ {i w f e o i1 w1 f1 e1 o1 : List ℕ} (clear : Cleared i w f e o i1 w1 
         → length o2 ≡ length o1
         → read_left r i3 w3 f3 e3 o3 ≡ read_outcome (lens i w f e o) file
     unfolding read_outcome outcome_of
-    read-lost {n} {i3} {w3} {f3} {e3} {o3} q c a b d g k = go (reading (lens i w f e o) file) refl again.answer
+    read_lost {n} {i3} {w3} {f3} {e3} {o3} q c a b d g k = go (reading (lens i w f e o) file) refl again.answer
       where
         go :
             (x : Verdict)

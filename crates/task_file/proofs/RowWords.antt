@@ -16,18 +16,18 @@ use Rattle.file_format.specs.Bytes.{zeros, row_defaults, operator_defaults}
 use Rattle.file_format.specs.Parse.{Parsed, parsed, unparsed, next, kept, byte_read, field_read, fields_read, mapped_read}
 use Rattle.file_format.specs.Reading.{row_read, operator_fields_read, formula_read, effect_read, operator_right, operator_read}
 use Rattle.task_file.specs.Inner.Tables.{row_words_read, kept_words_read}
-use Rattle.file_format.proofs.Parse.{parsed-value, parsed-rest, refused-parsed}
+use Rattle.file_format.proofs.Parse.{parsed_value, parsed_rest, refused_parsed}
 
 -- three fields
 module _ (m : ℕ) (bytes : List ℕ) where
-  pub first-refused : {n : ℕ} → field_read 0 (m % 2) bytes ≡ unparsed n → fields_read zeros m bytes ≡ unparsed n
+  pub first_refused : {n : ℕ} → field_read 0 (m % 2) bytes ≡ unparsed n → fields_read zeros m bytes ≡ unparsed n
   unfolding fields_read next
-  first-refused e = rw e
+  first_refused e = rw e
 
   module _ {a : ℕ} {r1 : List ℕ} (e1 : field_read 0 (m % 2) bytes ≡ parsed a r1) where
-    pub second-refused : {n : ℕ} → field_read 0 (m / 2 % 2) r1 ≡ unparsed n → fields_read zeros m bytes ≡ unparsed n
+    pub second_refused : {n : ℕ} → field_read 0 (m / 2 % 2) r1 ≡ unparsed n → fields_read zeros m bytes ≡ unparsed n
     unfolding fields_read next
-    second-refused e = rw (e1, e)
+    second_refused e = rw (e1, e)
 
     module _ {b : ℕ} {r2 : List ℕ} (e2 : field_read 0 (m / 2 % 2) r1 ≡ parsed b r2) where
       quarter : m / 2 / 2 ≡ m / 4
@@ -53,21 +53,21 @@ first_two (x ∷ (y ∷ (w ∷ ws))) z a b c e = absurd (no_end ws z (cc))
 
 -- two fields of three, if the third one's bit is 0
 module _ (m : ℕ) (bytes : List ℕ) (clear : m / 4 % 4 ≡ 0) where
-  third-clear : m / 2 / 2 % 2 ≡ 0
-  third-clear = omega arith
+  third_clear : m / 2 / 2 % 2 ≡ 0
+  third_clear = omega arith
 
-  two-of-three : (o1 : Parsed ℕ) → field_read 0 (m % 2) bytes ≡ o1 → fields_read zeros m bytes ≡ next (fields_read row_defaults m bytes) (λ ws. parsed (ws ++ (0 ∷ [])))
+  two_of_three : (o1 : Parsed ℕ) → field_read 0 (m % 2) bytes ≡ o1 → fields_read zeros m bytes ≡ next (fields_read row_defaults m bytes) (λ ws. parsed (ws ++ (0 ∷ [])))
   unfolding fields_read next field_read
-  two-of-three (unparsed n) e = rw e
-  two-of-three (parsed a r1) e = go (field_read 0 (m / 2 % 2) r1) refl
+  two_of_three (unparsed n) e = rw e
+  two_of_three (parsed a r1) e = go (field_read 0 (m / 2 % 2) r1) refl
     where
       go : (o2 : Parsed ℕ) → field_read 0 (m / 2 % 2) r1 ≡ o2 → fields_read zeros m bytes ≡ next (fields_read row_defaults m bytes) (λ ws. parsed (ws ++ (0 ∷ [])))
       go (unparsed n) e2 = rw (e, e2)
-      go (parsed b r2) e2 = rw (e, e2, third-clear)
+      go (parsed b r2) e2 = rw (e, e2, third_clear)
 
-  two-refused : {n : ℕ} → fields_read zeros m bytes ≡ unparsed n → fields_read row_defaults m bytes ≡ unparsed n
+  two_refused : {n : ℕ} → fields_read zeros m bytes ≡ unparsed n → fields_read row_defaults m bytes ≡ unparsed n
   unfolding next
-  two-refused {n} e = go (fields_read row_defaults m bytes) refl (sym (two-of-three (field_read 0 (m % 2) bytes) refl) ∙ e)
+  two_refused {n} e = go (fields_read row_defaults m bytes) refl (sym (two_of_three (field_read 0 (m % 2) bytes) refl) ∙ e)
     where
       go :
           (o : Parsed (List ℕ))
@@ -75,22 +75,22 @@ module _ (m : ℕ) (bytes : List ℕ) (clear : m / 4 % 4 ≡ 0) where
           → next (fields_read row_defaults m bytes) (λ ws. parsed (ws ++ (0 ∷ []))) ≡ unparsed n
           → fields_read row_defaults m bytes ≡ unparsed n
       go (unparsed k) e f = e ∙ (rw e at f ∙ cc)
-      go (parsed ws rest) e f = absurd (refused-parsed (sym (rw e at f)))
+      go (parsed ws rest) e f = absurd (refused_parsed (sym (rw e at f)))
 
-  two-there : {a b c : ℕ} {rest : List ℕ} → fields_read zeros m bytes ≡ parsed (a ∷ b ∷ c ∷ []) rest → fields_read row_defaults m bytes ≡ parsed (a ∷ b ∷ []) rest
+  two_there : {a b c : ℕ} {rest : List ℕ} → fields_read zeros m bytes ≡ parsed (a ∷ b ∷ c ∷ []) rest → fields_read row_defaults m bytes ≡ parsed (a ∷ b ∷ []) rest
   unfolding next
-  two-there {a} {b} {c} {rest} e = go (fields_read row_defaults m bytes) refl (sym (two-of-three (field_read 0 (m % 2) bytes) refl) ∙ e)
+  two_there {a} {b} {c} {rest} e = go (fields_read row_defaults m bytes) refl (sym (two_of_three (field_read 0 (m % 2) bytes) refl) ∙ e)
     where
       go :
           (o : Parsed (List ℕ))
           → fields_read row_defaults m bytes ≡ o
           → next (fields_read row_defaults m bytes) (λ ws. parsed (ws ++ (0 ∷ []))) ≡ parsed (a ∷ b ∷ c ∷ []) rest
           → fields_read row_defaults m bytes ≡ parsed (a ∷ b ∷ []) rest
-      go (unparsed k) e f = absurd (refused-parsed (rw e at f))
+      go (unparsed k) e f = absurd (refused_parsed (rw e at f))
       go (parsed ws r) e f =
           let g : parsed (ws ++ (0 ∷ [])) r ≡ parsed (a ∷ b ∷ c ∷ []) rest = rw e at f in
-          let w : ws ≡ a ∷ b ∷ [] = first_two ws 0 a b c (parsed-value g) in
-          let q : r ≡ rest = parsed-rest g in
+          let w : ws ≡ a ∷ b ∷ [] = first_two ws 0 a b c (parsed_value g) in
+          let q : r ≡ rest = parsed_rest g in
           e ∙ rw (w, q)
 
 -- three fields, and then the others
@@ -140,63 +140,63 @@ fields_split ds m bytes = go1 (field_read 0 (m % 2) bytes) refl
 
 -- an operator's four: three of default 0, and the percent
 module _ (m : ℕ) (bytes : List ℕ) where
-  four-split :
+  four_split :
       fields_read operator_defaults m bytes
       ≡ next (fields_read zeros m bytes) (λ ws rest. next (fields_read (100 ∷ []) (m / 8) rest) (λ vs. parsed (ws ++ vs)))
-  four-split =
+  four_split =
       let e : m / 2 / 2 / 2 ≡ m / 8 = omega arith in
       rw e at (fields_split (100 ∷ []) m bytes)
 
-  pub four-refused : {n : ℕ} → fields_read zeros m bytes ≡ unparsed n → fields_read operator_defaults m bytes ≡ unparsed n
+  pub four_refused : {n : ℕ} → fields_read zeros m bytes ≡ unparsed n → fields_read operator_defaults m bytes ≡ unparsed n
   unfolding next
-  four-refused e = rw (four-split, e)
+  four_refused e = rw (four_split, e)
 
   module _ (few : m < 16) {a b c : ℕ} {rest : List ℕ} (three : fields_read zeros m bytes ≡ parsed (a ∷ b ∷ c ∷ []) rest) where
     one_bit : m / 8 % 2 ≡ m / 8
     one_bit = omega arith
 
-    pub percent-refused : {n : ℕ} → field_read 100 (m / 8) rest ≡ unparsed n → fields_read operator_defaults m bytes ≡ unparsed n
+    pub percent_refused : {n : ℕ} → field_read 100 (m / 8) rest ≡ unparsed n → fields_read operator_defaults m bytes ≡ unparsed n
     unfolding next fields_read
-    percent-refused e = rw (four-split, three, one_bit, e)
+    percent_refused e = rw (four_split, three, one_bit, e)
 
-    pub four-there :
+    pub four_there :
         {d : ℕ} {rest' : List ℕ} → field_read 100 (m / 8) rest ≡ parsed d rest' → fields_read operator_defaults m bytes ≡ parsed (a ∷ b ∷ c ∷ d ∷ []) rest'
     unfolding next fields_read
-    four-there e = rw (four-split, three, one_bit, e)
+    four_there e = rw (four_split, three, one_bit, e)
 
 -- a formula's or an effect's row without its own number
 module _ (bytes : List ℕ) where
-  pub kind-ends : {n : ℕ} → byte_read bytes ≡ unparsed n → row_words_read Formulas bytes ≡ unparsed n
+  pub kind_ends : {n : ℕ} → byte_read bytes ≡ unparsed n → row_words_read Formulas bytes ≡ unparsed n
   unfolding row_read mapped_read next
-  kind-ends e = rw e
+  kind_ends e = rw e
 
   module _ {m : ℕ} {rest : List ℕ} (first : byte_read bytes ≡ parsed m rest) where
-    pub kind-unclear : (m / 4 % 4 ≡ 0 → ⊥) → row_words_read Formulas bytes ≡ unparsed 2
+    pub kind_unclear : (m / 4 % 4 ≡ 0 → ⊥) → row_words_read Formulas bytes ≡ unparsed 2
     unfolding row_read mapped_read next kept
-    kind-unclear ne = rw (first, ne_eqb (m / 4 % 4) 0 ne)
+    kind_unclear ne = rw (first, ne_eqb (m / 4 % 4) 0 ne)
 
     module _ (clear : m / 4 % 4 ≡ 0) where
       pub kind-refused : {n : ℕ} → fields_read zeros m rest ≡ unparsed n → row_words_read Formulas bytes ≡ unparsed n
       unfolding row_read mapped_read next kept
-      kind-refused e = rw (first, eq-eqb (m / 4 % 4) 0 clear, two-refused m rest clear e)
+      kind-refused e = rw (first, eq-eqb (m / 4 % 4) 0 clear, two_refused m rest clear e)
 
       pub kind-there :
           {a b c : ℕ} {rest' : List ℕ}
           → fields_read zeros m rest ≡ parsed (a ∷ b ∷ c ∷ []) rest'
           → row_words_read Formulas bytes ≡ parsed (m / 16 ∷ a ∷ b ∷ []) rest'
       unfolding row_read mapped_read next kept row_words
-      kind-there e = rw (first, eq-eqb (m / 4 % 4) 0 clear, two-there m rest clear e)
+      kind-there e = rw (first, eq-eqb (m / 4 % 4) 0 clear, two_there m rest clear e)
 
 -- an operator's
 module _ (bytes : List ℕ) where
-  pub four-ends : {n : ℕ} → byte_read bytes ≡ unparsed n → row_words_read Operators bytes ≡ unparsed n
+  pub four_ends : {n : ℕ} → byte_read bytes ≡ unparsed n → row_words_read Operators bytes ≡ unparsed n
   unfolding operator_fields_read mapped_read next
-  four-ends e = rw e
+  four_ends e = rw e
 
   module _ {m : ℕ} {rest : List ℕ} (first : byte_read bytes ≡ parsed m rest) where
-    pub four-unclear : 16 ≤ m → row_words_read Operators bytes ≡ unparsed 2
+    pub four_unclear : 16 ≤ m → row_words_read Operators bytes ≡ unparsed 2
     unfolding operator_fields_read mapped_read next kept
-    four-unclear h = rw (first, le-ltb m 16 h)
+    four_unclear h = rw (first, le-ltb m 16 h)
 
     module _ (clear : m < 16) where
       pub row-refused : {n : ℕ} → fields_read operator_defaults m rest ≡ unparsed n → row_words_read Operators bytes ≡ unparsed n
@@ -212,37 +212,37 @@ module _ (bytes : List ℕ) where
 
 -- a row with its own number: a test of its words
 module _ {A : Type 0} (p : List ℕ → Parsed A) (words : A → List ℕ) (rule : A → Bool) (n : A → ℕ) (bytes : List ℕ) where
-  ruled-words : Parsed (List ℕ)
-  ruled-words = next (next (p bytes) (λ x. kept (rule x) (n x) x)) (λ x. parsed (words x))
+  ruled_words : Parsed (List ℕ)
+  ruled_words = next (next (p bytes) (λ x. kept (rule x) (n x) x)) (λ x. parsed (words x))
 
-  ruled-refused : {k : ℕ} → next (p bytes) (λ x. parsed (words x)) ≡ unparsed k → ruled-words ≡ unparsed k
-  unfolding ruled-words next
-  ruled-refused {k} e = go (p bytes) refl
+  ruled_refused : {k : ℕ} → next (p bytes) (λ x. parsed (words x)) ≡ unparsed k → ruled_words ≡ unparsed k
+  unfolding ruled_words next
+  ruled_refused {k} e = go (p bytes) refl
     where
-      go : (o : Parsed A) → p bytes ≡ o → ruled-words ≡ unparsed k
-      go (parsed x rest) f = absurd (refused-parsed (sym (rw f at e)))
+      go : (o : Parsed A) → p bytes ≡ o → ruled_words ≡ unparsed k
+      go (parsed x rest) f = absurd (refused_parsed (sym (rw f at e)))
       go (unparsed j) f = rw f (rw f at e ∙ cc)
 
   module _ {ws rest : List ℕ} (e : next (p bytes) (λ x. parsed (words x)) ≡ parsed ws rest) (b : Bool) (test : (x : A) → words x ≡ ws → rule x ≡ b) where
-    broken : b ≡ false → (k : ℕ) → ((x : A) → words x ≡ ws → n x ≡ k) → ruled-words ≡ unparsed k
-    unfolding ruled-words next kept
+    broken : b ≡ false → (k : ℕ) → ((x : A) → words x ≡ ws → n x ≡ k) → ruled_words ≡ unparsed k
+    unfolding ruled_words next kept
     broken q k number = go (p bytes) refl
       where
-        go : (o : Parsed A) → p bytes ≡ o → ruled-words ≡ unparsed k
-        go (unparsed j) f = absurd (refused-parsed (rw f at e))
+        go : (o : Parsed A) → p bytes ≡ o → ruled_words ≡ unparsed k
+        go (unparsed j) f = absurd (refused_parsed (rw f at e))
         go (parsed x r) f =
             let g : parsed (words x) r ≡ parsed ws rest = rw f at e in
-            rw (f, test x (parsed-value g), q) (ap {B = Parsed (List ℕ)} unparsed (number x (parsed-value g)))
+            rw (f, test x (parsed_value g), q) (ap {B = Parsed (List ℕ)} unparsed (number x (parsed_value g)))
 
-    unbroken : b ≡ true → ruled-words ≡ parsed ws rest
-    unfolding ruled-words next kept
+    unbroken : b ≡ true → ruled_words ≡ parsed ws rest
+    unfolding ruled_words next kept
     unbroken q = go (p bytes) refl
       where
-        go : (o : Parsed A) → p bytes ≡ o → ruled-words ≡ parsed ws rest
-        go (unparsed j) f = absurd (refused-parsed (rw f at e))
+        go : (o : Parsed A) → p bytes ≡ o → ruled_words ≡ parsed ws rest
+        go (unparsed j) f = absurd (refused_parsed (rw f at e))
         go (parsed x r) f =
             let g : parsed (words x) r ≡ parsed ws rest = rw f at e in
-            rw (f, test x (parsed-value g), q) g
+            rw (f, test x (parsed_value g), q) g
 
 same_row : (rule : Row → Bool) (f s t : ℕ) (r : Row) → row_words r ≡ f ∷ s ∷ t ∷ [] → rule r ≡ rule (record { kind = f; a = s; b = t })
 unfolding row_words
@@ -259,63 +259,63 @@ same_operator :
 same_operator rule f s t u o e = ap rule (operator_by_words o e)
 
 module _ (h : Head) (i : ℕ) (bytes : List ℕ) where
-  pub kept-refused : (table : Table) {n : ℕ} → row_words_read table bytes ≡ unparsed n → kept_words_read table h i bytes ≡ unparsed n
-  unfolding ruled-words formula_read effect_read operator_read
-  kept-refused Formulas e = ruled-refused row_read row_words (formula_kept h.variables i) (λ x. 10) bytes e
-  kept-refused Effects e = ruled-refused row_read row_words (effect_kept h.variables h.formulas i) (λ x. 11) bytes e
-  kept-refused Operators e =
-      ruled-refused operator_fields_read operator_row_words (operator_right h.formulas h.effects) (operator_number h.formulas h.effects) bytes e
+  pub kept_refused : (table : Table) {n : ℕ} → row_words_read table bytes ≡ unparsed n → kept_words_read table h i bytes ≡ unparsed n
+  unfolding ruled_words formula_read effect_read operator_read
+  kept_refused Formulas e = ruled_refused row_read row_words (formula_kept h.variables i) (λ x. 10) bytes e
+  kept_refused Effects e = ruled_refused row_read row_words (effect_kept h.variables h.formulas i) (λ x. 11) bytes e
+  kept_refused Operators e =
+      ruled_refused operator_fields_read operator_row_words (operator_right h.formulas h.effects) (operator_number h.formulas h.effects) bytes e
 
   module _ {f s t : ℕ} {rest : List ℕ} where
-    pub formula-broken :
+    pub formula_broken :
         row_words_read Formulas bytes ≡ parsed (f ∷ s ∷ t ∷ []) rest
         → formula_kept h.variables i (record { kind = f; a = s; b = t }) ≡ false
         → kept_words_read Formulas h i bytes ≡ unparsed 10
-    unfolding ruled-words formula_read
-    formula-broken e q =
+    unfolding ruled_words formula_read
+    formula_broken e q =
         broken row_read row_words (formula_kept h.variables i) (λ x. 10) bytes e _ (same_row (formula_kept h.variables i) f s t) q 10 (λ x w. refl)
 
-    pub formula-there :
+    pub formula_there :
         row_words_read Formulas bytes ≡ parsed (f ∷ s ∷ t ∷ []) rest
         → formula_kept h.variables i (record { kind = f; a = s; b = t }) ≡ true
         → kept_words_read Formulas h i bytes ≡ parsed (f ∷ s ∷ t ∷ []) rest
-    unfolding ruled-words formula_read
-    formula-there e q =
+    unfolding ruled_words formula_read
+    formula_there e q =
         unbroken row_read row_words (formula_kept h.variables i) (λ x. 10) bytes e _ (same_row (formula_kept h.variables i) f s t) q
 
-    pub effect-broken :
+    pub effect_broken :
         row_words_read Effects bytes ≡ parsed (f ∷ s ∷ t ∷ []) rest
         → effect_kept h.variables h.formulas i (record { kind = f; a = s; b = t }) ≡ false
         → kept_words_read Effects h i bytes ≡ unparsed 11
-    unfolding ruled-words effect_read
-    effect-broken e q =
+    unfolding ruled_words effect_read
+    effect_broken e q =
         broken row_read row_words (effect_kept h.variables h.formulas i) (λ x. 11) bytes e _
         (same_row (effect_kept h.variables h.formulas i) f s t) q 11 (λ x w. refl)
 
-    pub effect-there :
+    pub effect_there :
         row_words_read Effects bytes ≡ parsed (f ∷ s ∷ t ∷ []) rest
         → effect_kept h.variables h.formulas i (record { kind = f; a = s; b = t }) ≡ true
         → kept_words_read Effects h i bytes ≡ parsed (f ∷ s ∷ t ∷ []) rest
-    unfolding ruled-words effect_read
-    effect-there e q =
+    unfolding ruled_words effect_read
+    effect_there e q =
         unbroken row_read row_words (effect_kept h.variables h.formulas i) (λ x. 11) bytes e _
         (same_row (effect_kept h.variables h.formulas i) f s t) q
 
   module _ {f s t u : ℕ} {rest : List ℕ} (e : row_words_read Operators bytes ≡ parsed (f ∷ s ∷ t ∷ u ∷ []) rest) where
-    pub operator-broken :
+    pub operator_broken :
         {n : ℕ} → n ≡ operator_number h.formulas h.effects (operator f s t u) → (n ≡ 0 → ⊥) → kept_words_read Operators h i bytes ≡ unparsed n
-    unfolding ruled-words operator_read
-    operator-broken {n} is some =
+    unfolding ruled_words operator_read
+    operator_broken {n} is some =
         broken operator_fields_read operator_row_words (operator_right h.formulas h.effects) (operator_number h.formulas h.effects) bytes e _
         (same_operator (operator_right h.formulas h.effects) f s t u)
         (ne_eqb (operator_number h.formulas h.effects (operator f s t u)) 0 (λ z. some (is ∙ z)))
         n
         (λ o w. same_operator (operator_number h.formulas h.effects) f s t u o w ∙ sym is)
 
-    pub operator-there :
+    pub operator_there :
         {n : ℕ} → n ≡ operator_number h.formulas h.effects (operator f s t u) → n ≡ 0 → kept_words_read Operators h i bytes ≡ parsed (f ∷ s ∷ t ∷ u ∷ []) rest
-    unfolding ruled-words operator_read
-    operator-there {n} is none =
+    unfolding ruled_words operator_read
+    operator_there {n} is none =
         unbroken operator_fields_read operator_row_words (operator_right h.formulas h.effects) (operator_number h.formulas h.effects) bytes e _
         (same_operator (operator_right h.formulas h.effects) f s t u)
         (eq-eqb (operator_number h.formulas h.effects (operator f s t u)) 0 (sym is ∙ none))

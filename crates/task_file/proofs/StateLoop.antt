@@ -18,7 +18,7 @@ use Rattle.file_format.specs.Parse.{parsed, unparsed, next, kept, byte_read, tab
 use Rattle.file_format.specs.Reading.{bit_of, spare_clear, initial_read}
 use Rattle.task_file.specs.Inner.Answers.{ReadPart, Unpacked}
 use Rattle.file_format.proofs.Fields.{byte_reads}
-use Rattle.file_format.proofs.Table.{table-reads}
+use Rattle.file_format.proofs.Table.{table_reads}
 use Rattle.file_format.proofs.Tables.{one_byte, bytes_joined, plain_byte}
 use Rattle.file_format.proofs.Initial.{upto_same}
 
@@ -43,18 +43,18 @@ pub record UnpackDone (count : ℕ) (bytes before state : List ℕ) (v : ℕ) : 
   pub behind : drop count state ≡ drop count before
 
 module _ (count : ℕ) (file : List ℕ) (at : ℕ) (before : List ℕ) where
-  pub unpack-begin : UnpackDone count (drop at file) before before 0
+  pub unpack_begin : UnpackDone count (drop at file) before before 0
   unfolding upto
-  unpack-begin = record { within = omega arith; size = refl; front = refl; behind = refl }
+  unpack_begin = record { within = omega arith; size = refl; front = refl; behind = refl }
 
-  pub unpack-more :
+  pub unpack_more :
       (state : List ℕ) (v : ℕ)
       → count ≤ length before
       → UnpackDone count (drop at file) before state v
       → v < count
       → UnpackDone count (drop at file) before (set state v (get_or file (at + v / 8) 0 / 2 ^ (v % 8) % 2)) (v + 1)
   unfolding upto
-  unpack-more state v long d h =
+  unpack_more state v long d h =
       let x = get_or file (at + v / 8) 0 / 2 ^ (v % 8) % 2 in
       let fits : v < length state = omega (arith, d.size) in
       record {
@@ -64,8 +64,8 @@ module _ (count : ℕ) (file : List ℕ) (at : ℕ) (before : List ℕ) where
         behind = drop-set-lt count state v x h ∙ d.behind;
       }
 
-  pub unpack-end : (state : List ℕ) (v : ℕ) → UnpackDone count (drop at file) before state v → count ≤ v → Unpacked count (drop at file) before state
-  unpack-end state v d h =
+  pub unpack_end : (state : List ℕ) (v : ℕ) → UnpackDone count (drop at file) before state v → count ≤ v → Unpacked count (drop at file) before state
+  unpack_end state v d h =
       let e : v ≡ count = omega (arith, d.within) in
       record { front = rw e at d.front; behind = d.behind }
 
@@ -73,7 +73,7 @@ module _ (count : ℕ) (file : List ℕ) (at : ℕ) (before : List ℕ) where
 plain_there : (n : ℕ) (bytes : List ℕ) → n ≤ length bytes → table_read plain_byte n bytes ≡ parsed (take n bytes) (drop n bytes)
 unfolding plain_byte one_byte
 plain_there n bytes h =
-    let e = table-reads one_byte plain_byte 0 (take n bytes) (λ i h rest. byte_reads (get_or (take n bytes) i 0) rest) (drop n bytes) in
+    let e = table_reads one_byte plain_byte 0 (take n bytes) (λ i h rest. byte_reads (get_or (take n bytes) i 0) rest) (drop n bytes) in
     rw (length-take-le n bytes h, bytes_joined (take n bytes), take-append-drop n bytes) at e
 
 plain_short : (n : ℕ) (bytes : List ℕ) → length bytes < n → table_read plain_byte n bytes ≡ unparsed 1
@@ -88,13 +88,13 @@ plain_short (suc n) bytes h = go (plain_short n bytes) (dec_lt (length bytes) n)
         rw (e, plain_there (length bytes) bytes (omega arith), drop-length bytes)
 
 module _ (v : ℕ) (bytes : List ℕ) (enough : bytes_for v ≤ length bytes) where
-  front-bit : (k : ℕ) → k < v → bit_of (take (bytes_for v) bytes) k ≡ bit_of bytes k
+  front_bit : (k : ℕ) → k < v → bit_of (take (bytes_for v) bytes) k ≡ bit_of bytes k
   unfolding bit_of bytes_for
-  front-bit k h = rw (get_or-take ((v + 7) / 8) bytes (k / 8) 0 (omega arith))
+  front_bit k h = rw (get_or-take ((v + 7) / 8) bytes (k / 8) 0 (omega arith))
 
-  front-clear : spare_clear (take (bytes_for v) bytes) v ≡ spare_clear bytes v
+  front_clear : spare_clear (take (bytes_for v) bytes) v ≡ spare_clear bytes v
   unfolding spare_clear bytes_for
-  front-clear = go (eqb (v % 8) 0) refl
+  front_clear = go (eqb (v % 8) 0) refl
     where
       go : (b : Bool) → eqb (v % 8) 0 ≡ b → spare_clear (take ((v + 7) / 8) bytes) v ≡ spare_clear bytes v
       go true e = rw e
@@ -103,40 +103,40 @@ module _ (v : ℕ) (bytes : List ℕ) (enough : bytes_for v ≤ length bytes) wh
           let inside : v / 8 < (v + 7) / 8 = omega arith in
           ap (λ (x : ℕ). eqb (v % 8) 0 || eqb (x / 2 ^ (v % 8)) 0) (get_or-take ((v + 7) / 8) bytes (v / 8) 0 inside)
 
-  front-state : upto v (bit_of (take (bytes_for v) bytes)) ≡ upto v (bit_of bytes)
-  front-state = upto_same v (bit_of (take (bytes_for v) bytes)) (bit_of bytes) front-bit
+  front_state : upto v (bit_of (take (bytes_for v) bytes)) ≡ upto v (bit_of bytes)
+  front_state = upto_same v (bit_of (take (bytes_for v) bytes)) (bit_of bytes) front_bit
 
   unclear : spare_clear bytes v ≡ false → initial_read v bytes ≡ unparsed 2
   unfolding initial_read next kept plain_byte
-  unclear e = rw (plain_there (bytes_for v) bytes enough, front-clear, e)
+  unclear e = rw (plain_there (bytes_for v) bytes enough, front_clear, e)
 
   clear : spare_clear bytes v ≡ true → initial_read v bytes ≡ parsed (upto v (bit_of bytes)) (drop (bytes_for v) bytes)
   unfolding initial_read next kept plain_byte
-  clear e = rw (plain_there (bytes_for v) bytes enough, front-clear, e, front-state)
+  clear e = rw (plain_there (bytes_for v) bytes enough, front_clear, e, front_state)
 
 -- the three ways out
 module _ (v : ℕ) (file : List ℕ) (at : ℕ) (before : List ℕ) where
-  pub state-short : length file - at < bytes_for v → ReadPart v file (initial_read v (drop at file)) (Nowhere 1) before before
+  pub state_short : length file - at < bytes_for v → ReadPart v file (initial_read v (drop at file)) (Nowhere 1) before before
   unfolding initial_read next plain_byte
-  state-short h =
+  state_short h =
       record {
         told = rw (plain_short (bytes_for v) (drop at file) (rw (length-drop at file) h));
         behind = refl;
       }
 
-  pub state-unclear :
+  pub state_unclear :
       bytes_for v ≤ length file - at
       → spare_clear (drop at file) v ≡ false
       → ReadPart v file (initial_read v (drop at file)) (Nowhere 2) before before
-  state-unclear h e = record { told = sym (unclear v (drop at file) (rw (length-drop at file) h) e); behind = refl }
+  state_unclear h e = record { told = sym (unclear v (drop at file) (rw (length-drop at file) h) e); behind = refl }
 
-  pub state-there :
+  pub state_there :
       (after : List ℕ)
       → bytes_for v ≤ length file - at
       → spare_clear (drop at file) v ≡ true
       → Unpacked v (drop at file) before after
       → ReadPart v file (initial_read v (drop at file)) (At (at + bytes_for v)) before after
-  state-there after h e u =
+  state_there after h e u =
       record {
         told = rw (u.front, ← (drop-drop (bytes_for v) at file)) (sym (clear v (drop at file) (rw (length-drop at file) h) e));
         behind = u.behind;

@@ -11,8 +11,8 @@ use lib.Dec.{eqb}
 use Rattle.task.specs.Bounded.{every}
 use Rattle.task.specs.Check.{twin_kept}
 use Rattle.task.proofs.Bounded.{every_same}
-use Rattle.task.proofs.Refusals.{twin-outside}
-use Rattle.task.proofs.Named.{NamedBy, named-stored, named_more, named-before, named_now}
+use Rattle.task.proofs.Refusals.{twin_outside}
+use Rattle.task.proofs.Named.{NamedBy, named_stored, named_more, named_before, named_now}
 use Rattle.task_file.specs.declared.Place.{Place}
 use Rattle.task_file.specs.declared.Place.TheVariants.{At, Nowhere}
 use Rattle.file_format.specs.Parse.{Parsed, parsed, unparsed, next, kept, word_read, table_read}
@@ -38,23 +38,23 @@ twin_stored bound twins k w h =
 
 -- row k once its word is stored: its test by the marks of the rows before it
 module _ (bound : ℕ) (few : bound ≤ 512) (twins : List ℕ) (k w : ℕ) (fits : k < length twins) where
-  stored-word : get_or (set twins k w) k 0 ≡ w
-  stored-word = get_or-set_same twins k w 0 fits
+  stored_word : get_or (set twins k w) k 0 ≡ w
+  stored_word = get_or-set_same twins k w 0 fits
 
-  pub twin-high : bound ≤ w → twin_kept bound (set twins k w) k ≡ false
-  twin-high h = twin-outside bound (set twins k w) k (rw stored-word h)
+  pub twin_high : bound ≤ w → twin_kept bound (set twins k w) k ≡ false
+  twin_high h = twin_outside bound (set twins k w) k (rw stored_word h)
 
   module _ (named : List ℕ) (m : NamedBy twins k named) (below : w < bound) where
-    pub twin-before : (get_or named w 0 ≡ 0 → ⊥) → twin_kept bound (set twins k w) k ≡ false
-    twin-before n = named-before (set twins k w) k named (named-stored twins k named m w) bound few (rw stored-word below) (rw stored-word n)
+    pub twin_before : (get_or named w 0 ≡ 0 → ⊥) → twin_kept bound (set twins k w) k ≡ false
+    twin_before n = named_before (set twins k w) k named (named_stored twins k named m w) bound few (rw stored_word below) (rw stored_word n)
 
-    pub twin-now : get_or named w 0 ≡ 0 → twin_kept bound (set twins k w) k ≡ true
-    twin-now z = named_now (set twins k w) k named (named-stored twins k named m w) bound few (rw stored-word below) (rw stored-word z)
+    pub twin_now : get_or named w 0 ≡ 0 → twin_kept bound (set twins k w) k ≡ true
+    twin_now z = named_now (set twins k w) k named (named_stored twins k named m w) bound few (rw stored_word below) (rw stored_word z)
 
-    pub twin-marked : NamedBy (set twins k w) (k + 1) (set named w 1)
-    twin-marked =
-        let low : get_or (set twins k w) k 0 < 512 = rw stored-word (omega arith) in
-        rw stored-word at (named_more (set twins k w) k named (named-stored twins k named m w) low)
+    pub twin_marked : NamedBy (set twins k w) (k + 1) (set named w 1)
+    twin_marked =
+        let low : get_or (set twins k w) k 0 < 512 = rw stored_word (omega arith) in
+        rw stored_word at (named_more (set twins k w) k named (named_stored twins k named m w) low)
 
 abbrev pub same : ℕ → ℕ
 same k = k
@@ -69,9 +69,9 @@ module _ (bound count : ℕ) (file : List ℕ) (at : ℕ) (before : List ℕ) wh
   abbrev pub TwinsDone : List ℕ → ℕ → ℕ → Type 0
   TwinsDone twins k place = Done same twins_p count file before twins k place
 
-  twins-step : (k : ℕ) → twins_p (suc k) ≡ next (twins_p k) (λ ws rest. next (twins_q k ws rest) (λ x. parsed (ws ++ x)))
+  twins_step : (k : ℕ) → twins_p (suc k) ≡ next (twins_p k) (λ ws rest. next (twins_q k ws rest) (λ x. parsed (ws ++ x)))
   unfolding table_read next
-  twins-step k = go (table_read (twin_read bound) k (drop at file))
+  twins_step k = go (table_read (twin_read bound) k (drop at file))
     where
       last : (done : List ℕ) (o : Parsed ℕ) → next o (λ r. parsed (done ++ (r ∷ []))) ≡ next (next o (λ w. parsed (w ∷ []))) (λ x. parsed (done ++ x))
       last done (unparsed n) = refl
@@ -84,11 +84,11 @@ module _ (bound count : ℕ) (file : List ℕ) (at : ℕ) (before : List ℕ) wh
       go (unparsed n) = refl
       go (parsed done rest) = last done (twin_read bound k done rest)
 
-  pub twins-begin : TwinsDone before 0 at
+  pub twins_begin : TwinsDone before 0 at
   unfolding table_read
-  twins-begin = record { within = omega arith; size = refl; front = refl; behind = refl }
+  twins_begin = record { within = omega arith; size = refl; front = refl; behind = refl }
 
-  pub twins-ended :
+  pub twins_ended :
       (twins : List ℕ) (k place : ℕ) {n : ℕ} {r : Place}
       → TwinsDone twins k place
       → k < count
@@ -96,10 +96,10 @@ module _ (bound count : ℕ) (file : List ℕ) (at : ℕ) (before : List ℕ) wh
       → r ≡ Nowhere n
       → ReadPart count file (table_read (twin_read bound) count (drop at file)) r before twins
   unfolding twin_read next
-  twins-ended twins k place d l e f =
-      done_refused same twins_p twins_q twins-step count file before twins k place d l (rw e) f twins refl
+  twins_ended twins k place d l e f =
+      done_refused same twins_p twins_q twins_step count file before twins k place d l (rw e) f twins refl
 
-  pub twins-broken :
+  pub twins_broken :
       (twins : List ℕ) (k place : ℕ) {w : ℕ} {rest : List ℕ}
       → count ≤ length before
       → TwinsDone twins k place
@@ -108,12 +108,12 @@ module _ (bound count : ℕ) (file : List ℕ) (at : ℕ) (before : List ℕ) wh
       → twin_kept bound (set twins k w) k ≡ false
       → ReadPart count file (table_read (twin_read bound) count (drop at file)) (Nowhere 9) before (set twins k w)
   unfolding twin_read next kept
-  twins-broken twins k place {w} long d l e t =
+  twins_broken twins k place {w} long d l e t =
       let fits : k < length twins = omega (arith, d.size) in
-      done_refused same twins_p twins_q twins-step count file before twins k place d l (rw (e, twin_stored bound twins k w fits, t)) refl (set twins k w)
+      done_refused same twins_p twins_q twins_step count file before twins k place d l (rw (e, twin_stored bound twins k w fits, t)) refl (set twins k w)
       (drop-set-lt count twins k w l)
 
-  pub twins-more :
+  pub twins_more :
       (twins : List ℕ) (k place : ℕ) {w next_place : ℕ}
       → count ≤ length before
       → TwinsDone twins k place
@@ -122,16 +122,16 @@ module _ (bound count : ℕ) (file : List ℕ) (at : ℕ) (before : List ℕ) wh
       → twin_kept bound (set twins k w) k ≡ true
       → TwinsDone (set twins k w) (k + 1) next_place
   unfolding twin_read next kept
-  twins-more twins k place {w} long d l e t =
+  twins_more twins k place {w} long d l e t =
       let fits : k < length twins = omega (arith, d.size) in
-      done_more same twins_p twins_q twins-step count file before twins (set twins k w) k place d l (rw (e, twin_stored bound twins k w fits, t))
+      done_more same twins_p twins_q twins_step count file before twins (set twins k w) k place d l (rw (e, twin_stored bound twins k w fits, t))
       (length-set twins k w)
       (ap (λ (n : ℕ). take n (set twins k w)) (add-one k) ∙ take-suc-set twins k w fits)
       (drop-set-lt count twins k w l)
 
-  pub twins-end :
+  pub twins_end :
       (twins : List ℕ) (k place : ℕ)
       → TwinsDone twins k place
       → count ≤ k
       → ReadPart count file (table_read (twin_read bound) count (drop at file)) (At place) before twins
-  twins-end twins k place d l = done_end same twins_p twins_q twins-step count file before twins k place d l
+  twins_end twins k place d l = done_end same twins_p twins_q twins_step count file before twins k place d l

@@ -8,8 +8,8 @@ use borrow.Author.Tests.{le-leb, eq-eqb}
 use Rattle.task.specs.Table.{Lent, Task, lent, task_of}
 use Rattle.task.specs.Check.{refusal}
 use Rattle.task.specs.Words.{head_of, words_of, operator_words, padded}
-use Rattle.task.proofs.Kept.{kept-rules}
-use Rattle.task.proofs.Words.{lent_in, task-in, kept_in}
+use Rattle.task.proofs.Kept.{kept_rules}
+use Rattle.task.proofs.Words.{lent_in, task_in, kept_in}
 use Rattle.file_format.specs.Bytes.{file_of}
 use Rattle.task.specs.Rules.{HasRoom}
 use Rattle.file_format.specs.Reading.{Lengths, accepted, reading}
@@ -31,7 +31,7 @@ read_after_write l n lengths e h room =
     let zeros : List ℕ = replicate (n - length file) 0 in
     rw (eq-eqb (refusal l) 0 e, le-leb (length file) n h)
     (ap (λ (f : List ℕ). outcome_of lengths (reading lengths f)) (take-append_seam file zeros)
-    ∙ ap (outcome_of lengths) (read_written lengths (task_of l) (kept-rules l e).1 room))
+    ∙ ap (outcome_of lengths) (read_written lengths (task_of l) (kept_rules l e).1 room))
 
 -- an accepted file, read and written again: the same bytes, or 20 if the output is shorter
 pub write_after_read :
@@ -48,5 +48,5 @@ write_after_read lengths file t n b e =
     let f : List ℕ = replicate (lengths.formulas - length (words_of t.formulas)) 0 in
     let g : List ℕ = replicate (lengths.effects - length (words_of t.effects)) 0 in
     let o : List ℕ = replicate (lengths.operators - length (operator_words t.operators)) 0 in
-    rw (e, eq-eqb (refusal (lent_in t i w f g o)) 0 (kept_in t i w f g o a.rules), task-in t i w f g o)
+    rw (e, eq-eqb (refusal (lent_in t i w f g o)) 0 (kept_in t i w f g o a.rules), task_in t i w f g o)
     (ap (λ (x : List ℕ). file_outcome x n) (sym a.same))

@@ -26,10 +26,10 @@ pub record PutDone (B : ℕ → List ℕ) (count at : ℕ) (before out : List �
   pub small : place ≤ at + 9 * i
 
 module _ (B : ℕ → List ℕ) (count at : ℕ) (before : List ℕ) where
-  pub put-begin : B 0 ≡ [] → PutDone B count at before before 0 at
-  put-begin e = record { within = omega arith; done = put_same (sym e) (put_none at before); small = omega arith }
+  pub put_begin : B 0 ≡ [] → PutDone B count at before before 0 at
+  put_begin e = record { within = omega arith; done = put_same (sym e) (put_none at before); small = omega arith }
 
-  pub put-more :
+  pub put_more :
       (out : List ℕ) (i place : ℕ) {out' b : List ℕ} {r : ℕ}
       → PutDone B count at before out i place
       → i < count
@@ -37,15 +37,15 @@ module _ (B : ℕ → List ℕ) (count at : ℕ) (before : List ℕ) where
       → length b ≤ 9
       → B (suc i) ≡ B i ++ b
       → PutDone B count at before out' (i + 1) r
-  put-more out i place d h p l e =
+  put_more out i place d h p l e =
       record {
         within = omega arith;
         done = put_same (sym e ∙ ap B (sym (add-one i))) (put_then d.done p);
         small = omega (arith, p.next, d.small);
       }
 
-  pub put-end : (out : List ℕ) (i place : ℕ) → PutDone B count at before out i place → count ≤ i → Put (B count) at place before out
-  put-end out i place d h =
+  pub put_end : (out : List ℕ) (i place : ℕ) → PutDone B count at before out i place → count ≤ i → Put (B count) at place before out
+  put_end out i place d h =
       let e : i ≡ count = omega (arith, d.within) in
       put_same (ap B e) d.done
 

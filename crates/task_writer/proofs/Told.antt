@@ -15,8 +15,8 @@ use Rattle.task.specs.Table.{Lent, Task, lent, row_at, operator_at, task_of, ope
 use Rattle.task.specs.Check.{refusal}
 use Rattle.task.specs.Rules.{LongEnough, HasRoom}
 use Rattle.task.specs.Words.{padded, head_of, words_of, operator_words}
-use Rattle.task.proofs.Held.{length-formulas, length-effects, length-operators}
-use Rattle.task.proofs.Kept.{kept-rules}
+use Rattle.task.proofs.Held.{length_formulas, length_effects, length_operators}
+use Rattle.task.proofs.Kept.{kept_rules}
 use Rattle.task.proofs.Words.{length_words, length_operator_words}
 use Rattle.task.proofs.Fronts.{rows_front, operators_front}
 use Rattle.file_format.specs.Bytes.{file_of}
@@ -81,66 +81,66 @@ module _
     (told : (write_outcome l n).answer ≡ Written k) (room : HasRoom lengths (task_of l))
   where
     long : LongEnough l
-    long = (kept-rules l (written_told l n k told).passed).0
+    long = (kept_rules l (written_told l n k told).passed).0
 
     same_outcome : read_outcome lengths (take k (write_outcome l n).out) ≡ outcome_of lengths (accepted (task_of l))
     same_outcome =
         let w = written_told l n k told in
         rw w.counted (read_after_write l n lengths w.passed w.fits room)
 
-    pub head-again : (read_outcome lengths (take k (write_outcome l n).out)).answer ≡ Read l.head
+    pub head_again : (read_outcome lengths (take k (write_outcome l n).out)).answer ≡ Read l.head
     unfolding outcome_of
-    head-again = ap (λ (o : ReadOutcome). o.answer) same_outcome ∙ ap Read (same_head l long)
+    head_again = ap (λ (o : ReadOutcome). o.answer) same_outcome ∙ ap Read (same_head l long)
 
-    pub initial-again :
+    pub initial_again :
         take l.head.variables (read_outcome lengths (take k (write_outcome l n).out)).initial
         ≡ take l.head.variables l.initial
     unfolding outcome_of task_of
-    initial-again =
+    initial_again =
         ap (λ (o : ReadOutcome). take l.head.variables o.initial) same_outcome
         ∙ front lengths.initial l.head.variables (take l.head.variables l.initial)
         (length-take-le l.head.variables l.initial long.initial)
 
-    pub twins-again :
+    pub twins_again :
         take l.head.twins (read_outcome lengths (take k (write_outcome l n).out)).twins
         ≡ take l.head.twins l.twins
     unfolding outcome_of task_of
-    twins-again =
+    twins_again =
         ap (λ (o : ReadOutcome). take l.head.twins o.twins) same_outcome
         ∙ front lengths.twins l.head.twins (take l.head.twins l.twins)
         (length-take-le l.head.twins l.twins long.twins)
 
-    pub formulas-again :
+    pub formulas_again :
         take (3 * l.head.formulas) (read_outcome lengths (take k (write_outcome l n).out)).formulas
         ≡ take (3 * l.head.formulas) l.formulas
     unfolding outcome_of task_of
-    formulas-again =
+    formulas_again =
         let rows = upto l.head.formulas (row_at l.formulas) in
         ap (λ (o : ReadOutcome). take (3 * l.head.formulas) o.formulas) same_outcome
         ∙ front lengths.formulas (3 * l.head.formulas) (words_of rows)
-        (length_words rows ∙ ap (λ (i : ℕ). 3 * i) (length-formulas l))
+        (length_words rows ∙ ap (λ (i : ℕ). 3 * i) (length_formulas l))
         ∙ sym (rows_front l.formulas l.head.formulas long.formulas)
 
-    pub effects-again :
+    pub effects_again :
         take (3 * l.head.effects) (read_outcome lengths (take k (write_outcome l n).out)).effects
         ≡ take (3 * l.head.effects) l.effects
     unfolding outcome_of task_of
-    effects-again =
+    effects_again =
         let rows = upto l.head.effects (row_at l.effects) in
         ap (λ (o : ReadOutcome). take (3 * l.head.effects) o.effects) same_outcome
         ∙ front lengths.effects (3 * l.head.effects) (words_of rows)
-        (length_words rows ∙ ap (λ (i : ℕ). 3 * i) (length-effects l))
+        (length_words rows ∙ ap (λ (i : ℕ). 3 * i) (length_effects l))
         ∙ sym (rows_front l.effects l.head.effects long.effects)
 
-    pub operators-again :
+    pub operators_again :
         take (operator_width * l.head.operators) (read_outcome lengths (take k (write_outcome l n).out)).operators
         ≡ take (operator_width * l.head.operators) l.operators
     unfolding outcome_of task_of
-    operators-again =
+    operators_again =
         let rows = upto l.head.operators (operator_at l.operators) in
         ap (λ (o : ReadOutcome). take (operator_width * l.head.operators) o.operators) same_outcome
         ∙ front lengths.operators (operator_width * l.head.operators) (operator_words rows)
-        (length_operator_words rows ∙ ap (λ (i : ℕ). operator_width * i) (length-operators l))
+        (length_operator_words rows ∙ ap (λ (i : ℕ). operator_width * i) (length_operators l))
         ∙ sym (operators_front l.operators l.head.operators long.operators)
 
 -- A file that was read, written again into n bytes.
@@ -148,25 +148,25 @@ module _
     (lengths : Lengths) (file : List ℕ) (h : Head) (n : ℕ)
     (bytes : Bytes file) (told : (read_outcome lengths file).answer ≡ Read h) (fits : length file ≤ n)
   where
-    written-again :
+    written_again :
         let o = read_outcome lengths file in
         write_outcome (lent h o.initial o.twins o.formulas o.effects o.operators) n
         ≡ wrote (Written (length file)) (padded n file)
     unfolding file_outcome
-    written-again =
+    written_again =
         let r = read_told lengths file h told in
         rw r.head
         (write_after_read lengths file r.task n bytes r.read ∙ rw (le-leb (length file) n fits))
 
-    pub length-again :
+    pub length_again :
         let o = read_outcome lengths file in
         (write_outcome (lent h o.initial o.twins o.formulas o.effects o.operators) n).answer
         ≡ Written (length file)
-    length-again = ap (λ (w : WriteOutcome). w.answer) written-again
+    length_again = ap (λ (w : WriteOutcome). w.answer) written_again
 
-    pub bytes-again :
+    pub bytes_again :
         let o = read_outcome lengths file in
         take (length file) (write_outcome (lent h o.initial o.twins o.formulas o.effects o.operators) n).out
         ≡ file
-    bytes-again =
-        ap (λ (w : WriteOutcome). take (length file) w.out) written-again ∙ front n (length file) file refl
+    bytes_again =
+        ap (λ (w : WriteOutcome). take (length file) w.out) written_again ∙ front n (length file) file refl

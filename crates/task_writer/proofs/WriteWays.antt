@@ -18,8 +18,8 @@ use Rattle.task.specs.Check.{refusal, formula_words_kept, formula_kept, formulas
 use Rattle.task.specs.Rules.{LongEnough}
 use Rattle.task.specs.Words.{joined, head_of, padded}
 use Rattle.task.proofs.Bounded.{every_at}
-use Rattle.task.proofs.Held.{length-initial, length-originals, length-formulas, length-effects, length-operators}
-use Rattle.task.proofs.Passed.{passed, counts_tested, lengths-tested, initial-tested}
+use Rattle.task.proofs.Held.{length_initial, length_originals, length_formulas, length_effects, length_operators}
+use Rattle.task.proofs.Passed.{passed, counts_tested, lengths_tested, initial_tested}
 use Rattle.task.specs.Inner.Tables.{words_at}
 use Rattle.task_writer.specs.declared.WriteAnswer.TheVariants.{Written, NotWritten}
 use Rattle.file_format.specs.Bytes.{word_bytes, head_defaults, head_fields, head_bytes, packed, bytes_for, file_of}
@@ -66,7 +66,7 @@ unfolding formulas_kept formula_kept effects_kept effect_kept row_at
 write_in l e =
     let p = passed l e in
     let c = (counts_tested l.head).0 p.counts in
-    let long = (lengths-tested l).0 p.lengths in
+    let long = (lengths_tested l).0 p.lengths in
     record {
       long = long;
       variables = c.variables;
@@ -74,7 +74,7 @@ write_in l e =
       formulas = c.formulas;
       effects = c.effects;
       operators = c.operators;
-      state = record { fit = long.initial; bits = (initial-tested l).0 p.initial };
+      state = record { fit = long.initial; bits = (initial_tested l).0 p.initial };
       formula_maps =
           λ i h.
           let r = row_at l.formulas i in
@@ -115,11 +115,11 @@ unfolding head_of task_of
 same_head l long =
     λ j.
     record {
-      variables = length-initial l long j;
-      twins = length-originals l long j;
-      formulas = length-formulas l j;
-      effects = length-effects l j;
-      operators = length-operators l j;
+      variables = length_initial l long j;
+      twins = length_originals l long j;
+      formulas = length_formulas l j;
+      effects = length_effects l j;
+      operators = length_operators l j;
       goal = l.head.goal;
     }
 
@@ -139,9 +139,9 @@ task_put l w h i t f e o =
 
 -- the three ways out of the call; z is the output after clearing, and what was put follows
 module _ (l : Lent) (out : List ℕ) where
-  pub not-checked : {z : List ℕ} {n : ℕ} → z ≡ replicate (length out) 0 → n ≡ refusal l → (n ≡ 0 → ⊥) → wrote (NotWritten n) z ≡ write_outcome l (length out)
+  pub not_checked : {z : List ℕ} {n : ℕ} → z ≡ replicate (length out) 0 → n ≡ refusal l → (n ≡ 0 → ⊥) → wrote (NotWritten n) z ≡ write_outcome l (length out)
   unfolding write_outcome
-  not-checked {z} {n} c e h =
+  not_checked {z} {n} c e h =
       let t : eqb (refusal l) 0 ≡ false = ne_eqb (refusal l) 0 (λ q. h (e ∙ q)) in
       rw t (λ j. wrote (NotWritten (e j)) (c j))
 
@@ -150,8 +150,8 @@ module _ (l : Lent) (out : List ℕ) where
     passes : eqb (refusal l) 0 ≡ true
     passes = eq-eqb (refusal l) 0 (sym checked ∙ ok)
 
-    z-size : length z ≡ length out
-    z-size = ap length clear ∙ length-replicate (length out) 0
+    z_size : length z ≡ length out
+    z_size = ap length clear ∙ length-replicate (length out) 0
 
     end_is : end ≡ length (file_of (task_of l))
     end_is = omega (arith, put.next)
@@ -159,7 +159,7 @@ module _ (l : Lent) (out : List ℕ) where
     pub too_long : {last : List ℕ} → length out' < end → last ≡ replicate (length out') 0 → wrote (NotWritten 20) last ≡ write_outcome l (length out)
     unfolding write_outcome file_outcome
     too_long {last} h c =
-        let size : length out' ≡ length out = put_size put ∙ z-size in
+        let size : length out' ≡ length out = put_size put ∙ z_size in
         let t : leb (length (file_of (task_of l))) (length out) ≡ false = lt-leb (length (file_of (task_of l))) (length out) (omega (arith, end_is)) in
         rw (passes, t) (ap (wrote (NotWritten 20)) (c ∙ ap (λ (k : ℕ). replicate k 0) size))
 
@@ -167,9 +167,9 @@ module _ (l : Lent) (out : List ℕ) where
     unfolding write_outcome file_outcome padded zeros_of
     fits h =
         let file = file_of (task_of l) in
-        let size : length out' ≡ length out = put_size put ∙ z-size in
+        let size : length out' ≡ length out = put_size put ∙ z_size in
         let t : leb (length file) (length out) ≡ true = le-leb (length file) (length out) (omega (arith, end_is)) in
-        let whole : out' ≡ file ++ drop (0 + length file) z = put.wrote ∙ sets-eq file z 0 (omega (arith, end_is, z-size)) in
+        let whole : out' ≡ file ++ drop (0 + length file) z = put.wrote ∙ sets-eq file z 0 (omega (arith, end_is, z_size)) in
         let zeros : drop (0 + length file) z ≡ replicate (length out - length file) 0 =
         ap (drop (0 + length file)) clear ∙ drop_zeros (length out) (0 + length file) ∙ ap (λ (k : ℕ). replicate (length out - k) 0) (zero-add (length file))
         in

@@ -8,7 +8,7 @@ use mathlib.Core.List.{List, [], ◌∷◌}
 use lib.ListN.{length, get_or, take, drop, length-take}
 use lib.Seq.{get_or-take, take-take, ext_get_or}
 use Rattle.task.specs.Table.{operator_width}
-use Rattle.task.proofs.Bounded.{getD-upto}
+use Rattle.task.proofs.Bounded.{getD_upto}
 use Rattle.finite_domain.specs.Table.{FiniteLent}
 use Rattle.finite_domain.specs.Check.{finite_counts_kept, finite_refusal}
 use Rattle.finite_domain.proofs.Passed.{finite_counts_tested}
@@ -81,7 +81,7 @@ number_at bytes i = get_or bytes (2 * i) 0 + 256 * get_or bytes (2 * i + 1) 0
 
 number_told : (bytes : List ℕ) (i : ℕ) → i < length bytes / 2 → get_or (numbers_of bytes) i 0 ≡ number_at bytes i
 unfolding numbers_of
-number_told bytes i h = getD-upto (length bytes / 2) (number_at bytes) i 0 h
+number_told bytes i h = getD_upto (length bytes / 2) (number_at bytes) i 0 h
 
 pub numbers_front : (bytes : List ℕ) (n : ℕ) → numbers_of (take (2 * n) bytes) ≡ take n (numbers_of bytes)
 numbers_front bytes n = ext_get_or 0 (numbers_of front) (take n (numbers_of bytes)) same_length same_number

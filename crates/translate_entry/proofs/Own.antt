@@ -17,7 +17,7 @@ use Rattle.finite_domain.specs.Check.{finite_refusal}
 use Rattle.finite_domain.proofs.Passed.{finite_passed, finite_counts_tested}
 use Rattle.translation.specs.Translated.{translated}
 use Rattle.translation.specs.Translating.{translate_scratch_kept, translate_refusal}
-use Rattle.translation.proofs.Passed.{translated-no-twins}
+use Rattle.translation.proofs.Passed.{translated_no_twins}
 use Rattle.translate_entry.specs.Entry.{translate_number}
 use Rattle.translate_entry.specs.Inner.Giving.{every_room}
 
@@ -35,27 +35,27 @@ limits_alone t = go (counts_kept h) refl
         let c = (counts_tested h).0 e in
         rw e
         (and_both (le-leb h.variables 512 c.variables)
-        (and_both (le-leb h.twins 0 (omega (arith, translated-no-twins t)))
+        (and_both (le-leb h.twins 0 (omega (arith, translated_no_twins t)))
         (and_both (le-leb (3 * h.formulas) 12288 (omega (arith, c.formulas)))
         (and_both (le-leb (3 * h.effects) 12288 (omega (arith, c.effects)))
         (le-leb (operator_width * h.operators) (operator_width * 256) (omega (arith, c.operators)))))))
 
 module _ (l : FiniteLent) where
   -- 14 never: scratch is as long as the limits ask for
-  own-scratch : finite_refusal l ≡ 0 → translate_scratch_kept l.head every_room ≡ true
+  own_scratch : finite_refusal l ≡ 0 → translate_scratch_kept l.head every_room ≡ true
   unfolding translate_scratch_kept every_room
-  own-scratch kept =
+  own_scratch kept =
       let c = ((finite_counts_tested l.head).0 (finite_passed l kept).counts).2 in
       le-leb (2 * l.head.formulas + 2 * l.head.effects) 16384 (omega (arith, c.formulas, c.effects))
 
   -- with scratch enough for tables that pass, any room comes to 15 or to this number: what fits it keeps the limits
-  pub same-refusal :
+  pub same_refusal :
       (room : Room)
       → (finite_refusal l ≡ 0 → translate_scratch_kept l.head room ≡ true)
       → (translate_refusal l room ≡ 15 → ⊥)
       → translate_refusal l room ≡ translate_number l
   unfolding translate_refusal translate_number
-  same-refusal room enough d = go (eqb (finite_refusal l) 0) (fits made room) refl refl
+  same_refusal room enough d = go (eqb (finite_refusal l) 0) (fits made room) refl refl
     where
       made : Task
       made = translated (finite_task_of l)
@@ -69,10 +69,10 @@ module _ (l : FiniteLent) where
           in
           rw (x, enough (eqb-true (finite_refusal l) 0 x), y, limits)
 
-  pub own-number : translate_refusal l every_room ≡ translate_number l
+  pub own_number : translate_refusal l every_room ≡ translate_number l
   unfolding translate_refusal translate_number
-  own-number = go (eqb (finite_refusal l) 0) refl
+  own_number = go (eqb (finite_refusal l) 0) refl
     where
       go : (a : Bool) → eqb (finite_refusal l) 0 ≡ a → translate_refusal l every_room ≡ translate_number l
       go false x = rw x
-      go true x = rw (x, own-scratch (eqb-true (finite_refusal l) 0 x), limits_alone (finite_task_of l))
+      go true x = rw (x, own_scratch (eqb-true (finite_refusal l) 0 x), limits_alone (finite_task_of l))

@@ -12,9 +12,9 @@ module _ (words : List ℕ) (from n : ℕ) where
   unfolding words_from
   none_from h = sym (ap (take n) (drop_of_length-le words h) ∙ take-nil n)
 
-  pub part-from : take (from + n - from) (drop from words) ≡ words_from words from n
+  pub part_from : take (from + n - from) (drop from words) ≡ words_from words from n
   unfolding words_from
-  part-from =
+  part_from =
       let wide : from + n - from ≡ n = omega arith in
       ap (λ (k : ℕ). take k (drop from words)) wide
 

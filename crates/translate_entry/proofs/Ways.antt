@@ -12,23 +12,23 @@ use Rattle.task.specs.Table.{Task, task_of}
 use Rattle.task.specs.Check.{refusal, unless}
 use Rattle.task.specs.Words.{head_of, words_of, operator_words, padded}
 use Rattle.task.proofs.RowRules.{passes, rest_of}
-use Rattle.task.proofs.Words.{lent_in, task-in}
+use Rattle.task.proofs.Words.{lent_in, task_in}
 use Rattle.file_format.specs.Bytes.{file_of}
 use Rattle.normal_form.specs.Compiled.{Room, Answer, compiled_head, not_compiled, fits, Fits, CompileOutcome, task_given, outcome_by, given}
 use Rattle.normal_form.proofs.Compiled.{fits_tested}
 use Rattle.finite_domain.specs.Table.{FiniteLent, finite_task_of}
 use Rattle.finite_domain.specs.Check.{finite_refusal}
 use Rattle.finite_domain.specs.Rules.{FiniteLongEnough}
-use Rattle.finite_domain.proofs.Kept.{finite-kept-rules}
+use Rattle.finite_domain.proofs.Kept.{finite_kept_rules}
 use Rattle.translation.specs.Translated.{translated}
 use Rattle.translation.specs.Translating.{translate_scratch_kept, translate_refusal, translating}
-use Rattle.translation.proofs.Passed.{translated-passes-in}
+use Rattle.translation.proofs.Passed.{translated_passes_in}
 use Rattle.entry_tables.specs.Inner.Answers.{refused_compile}
-use Rattle.entry_tables.proofs.Compiling.{number_by, never-zero}
+use Rattle.entry_tables.proofs.Compiling.{number_by, never_zero}
 use Rattle.compiled_file.specs.Filed.{no_file, filed, compiled_file_by, CompileGives}
 use Rattle.translate_entry.specs.Entry.{translate_number}
 use Rattle.translate_entry.specs.Inner.Giving.{translate_through, translate_tables, every_room, FewRows}
-use Rattle.translate_entry.proofs.Own.{own-number, same-refusal}
+use Rattle.translate_entry.proofs.Own.{own_number, same_refusal}
 
 -- What a translating that nothing refuses was lent and made.
 record Succeeds (l : FiniteLent) (room : Room) : Type 0 where
@@ -67,22 +67,22 @@ module _ (l : FiniteLent) (room : Room) (h : Head) (success : (translating l roo
   unfolding translating
   unrefused = number_by made room (translate_refusal l room) ∙ ap refused_compile success
 
-  given-outcome : translating l room ≡ task_given made room
+  given_outcome : translating l room ≡ task_given made room
   unfolding translating outcome_by
-  given-outcome = rw unrefused
+  given_outcome = rw unrefused
 
-  given-head : h ≡ head_of made
+  given_head : h ≡ head_of made
   unfolding task_given
-  given-head =
+  given_head =
       let told : compiled_head h ≡ compiled_head (head_of made) =
-      sym success ∙ ap (λ (o : CompileOutcome). o.answer) given-outcome
+      sym success ∙ ap (λ (o : CompileOutcome). o.answer) given_outcome
       in
       cc
 
   tail : ℕ → List ℕ → List ℕ
   tail n words = replicate (n - length words) 0
 
-  given-lent :
+  given_lent :
       given h (translating l room)
       ≡ lent_in made
       (tail room.initial made.initial)
@@ -91,55 +91,55 @@ module _ (l : FiniteLent) (room : Room) (h : Head) (success : (translating l roo
       (tail room.effects (words_of made.effects))
       (tail room.operators (operator_words made.operators))
   unfolding lent_in tail task_given padded
-  given-lent = rw (given-outcome, given-head)
+  given_lent = rw (given_outcome, given_head)
 
   -- the tables that translating gave hold the translated task, and pass 01's check
-  pub given-task : task_of (given h (translating l room)) ≡ translated (finite_task_of l)
-  given-task = ap task_of given-lent ∙ task-in made _ _ _ _ _
+  pub given_task : task_of (given h (translating l room)) ≡ translated (finite_task_of l)
+  given_task = ap task_of given_lent ∙ task_in made _ _ _ _ _
 
-  pub given-passes : refusal (given h (translating l room)) ≡ 0
-  given-passes =
+  pub given_passes : refusal (given h (translating l room)) ≡ 0
+  given_passes =
       let s = none_refused l room unrefused in
-      ap refusal given-lent
-      ∙ translated-passes-in (finite_task_of l) (finite-kept-rules l s.passed).1 _ _ _ _ _ s.fitting.limits
+      ap refusal given_lent
+      ∙ translated_passes_in (finite_task_of l) (finite_kept_rules l s.passed).1 _ _ _ _ _ s.fitting.limits
 
 module _ (l : FiniteLent) (room : Room) {left : CompileOutcome} (leaves : left ≡ translating l room) where
   answered : {q : Answer} → left.answer ≡ q → (translating l room).answer ≡ q
   answered q = sym (ap (λ (x : CompileOutcome). x.answer) leaves) ∙ q
 
-  pub no-task-translated :
+  pub no_task_translated :
       (o n : ℕ) {k number code : ℕ} {out result : List ℕ}
       → left.answer ≡ not_compiled k
       → number ≡ k
       → CompileGives (no_file number o n) code out result
       → CompileGives (translate_through l room o n) code out result
   unfolding translate_through compiled_file_by translating
-  no-task-translated o n {k} {number} {code} {out} {result} q same none = go k (answered q) same
+  no_task_translated o n {k} {number} {code} {out} {result} q same none = go k (answered q) same
     where
       made : Task
       made = translated (finite_task_of l)
 
       go : (k : ℕ) → (translating l room).answer ≡ not_compiled k → number ≡ k → CompileGives (translate_through l room o n) code out result
-      go zero e same = absurd (never-zero made room (translate_refusal l room) e)
+      go zero e same = absurd (never_zero made room (translate_refusal l room) e)
       go (suc m) e same =
           rw (number_by made room (translate_refusal l room) ∙ ap refused_compile e)
           (record { told = none.told ∙ same; written = none.written; held = none.held })
 
   module _ {head : Head} (q : left.answer ≡ compiled_head head) where
-    its-tables : given head left ≡ given head (translating l room)
-    its-tables = ap (given head) leaves
+    its_tables : given head left ≡ given head (translating l room)
+    its_tables = ap (given head) leaves
 
-    pub translated-kept : refusal (given head left) ≡ 0
-    translated-kept = ap refusal its-tables ∙ given-passes l room head (answered q)
+    pub translated_kept : refusal (given head left) ≡ 0
+    translated_kept = ap refusal its_tables ∙ given_passes l room head (answered q)
 
-    pub translated-given :
+    pub translated_given :
         (o n : ℕ) {code : ℕ} {out result : List ℕ}
         → CompileGives (filed (file_of (task_of (given head left))) o n) code out result
         → CompileGives (translate_through l room o n) code out result
     unfolding translate_through compiled_file_by
-    translated-given o n g =
+    translated_given o n g =
         let t : task_of (given head left) ≡ translated (finite_task_of l) =
-        ap task_of its-tables ∙ given-task l room head (answered q)
+        ap task_of its_tables ∙ given_task l room head (answered q)
         in
         rw (unrefused l room head (answered q), ← t) g
 
@@ -165,8 +165,8 @@ module _ (l : FiniteLent) (o n : ℕ) {code : ℕ} {out result : List ℕ} where
       subst (λ (k : ℕ). CompileGives (compiled_file_by k (translated (finite_task_of l)) o n) code out result) same g
 
   -- through room for every task
-  pub full-given : CompileGives (translate_through l every_room o n) code out result → CompileGives (translate_tables l o n) code out result
-  full-given g = by_number every_room (own-number l) g
+  pub full_given : CompileGives (translate_through l every_room o n) code out result → CompileGives (translate_tables l o n) code out result
+  full_given g = by_number every_room (own_number l) g
 
   -- few rows through a smaller room: any answer but 15 stands
   pub settled :
@@ -179,8 +179,8 @@ module _ (l : FiniteLent) (o n : ℕ) {code : ℕ} {out result : List ℕ} where
   unfolding translate_through compiled_file_by
   settled room wide rows d g =
       by_number room
-      (same-refusal l room enough (λ e. d (g.told ∙ ap (λ (k : ℕ). (compiled_file_by k (translated (finite_task_of l)) o n).number) e)))
+      (same_refusal l room enough (λ e. d (g.told ∙ ap (λ (k : ℕ). (compiled_file_by k (translated (finite_task_of l)) o n).number) e)))
       g
     where
       enough : finite_refusal l ≡ 0 → translate_scratch_kept l.head room ≡ true
-      enough kept = enough_scratch l room wide rows (finite-kept-rules l kept).0
+      enough kept = enough_scratch l room wide rows (finite_kept_rules l kept).0

@@ -61,28 +61,28 @@ decoded_given bytes before decoded o n whole g =
 
 -- the first bytes
 module _ (bytes : List ℕ) (most : ℕ) where
-  pub all-bytes : length bytes ≤ most → take (length bytes - 0) bytes ≡ take most bytes
-  all-bytes h = take_all (length bytes - 0) bytes (omega arith) ∙ sym (take_all most bytes h)
+  pub all_bytes : length bytes ≤ most → take (length bytes - 0) bytes ≡ take most bytes
+  all_bytes h = take_all (length bytes - 0) bytes (omega arith) ∙ sym (take_all most bytes h)
 
-  pub first-bytes : take (most - 0) bytes ≡ take most bytes
-  first-bytes =
+  pub first_bytes : take (most - 0) bytes ≡ take most bytes
+  first_bytes =
       let k : most - 0 ≡ most = omega arith in
       ap (λ (m : ℕ). take m bytes) k
 
 module _ (bytes : List ℕ) {front : List ℕ} (cuts : front ≡ take 51468 bytes) where
-  pub front-in : {words : List ℕ} → 12 ≤ length bytes → length words ≡ 25734 → WordsIn front words
-  front-in head room =
+  pub front_in : {words : List ℕ} → 12 ≤ length bytes → length words ≡ 25734 → WordsIn front words
+  front_in head room =
       let long = length-take 51468 bytes in
       let same = ap length cuts in
       record { head = omega (arith, long, same); room = omega (arith, long, same) }
 
   -- .. are enough
-  pub front-given :
+  pub front_given :
       (o n : ℕ) {code : ℕ} {out result : List ℕ}
       → CompileGives (translate_words (numbers_of front) o n) code out result
       → CompileGives (translate_words (numbers_of bytes) o n) code out result
   unfolding most_words
-  front-given o n {code} {out} {result} g =
+  front_given o n {code} {out} {result} g =
       subst (λ (w : CompileEntry). CompileGives w code out result) (cut (numbers_of bytes) 25734 (omega arith) o n)
       (same_words o n (ap numbers_of cuts ∙ numbers_front bytes 25734) g)
 
@@ -92,9 +92,9 @@ module _ (bytes : List ℕ) (o n : ℕ) {code : ℕ} {out result : List ℕ} whe
   unfolding translate_entry translate_entry_number compiled_file_by
   no_head h g = rw (lt-leb 12 (length bytes) h) g
 
-  pub with-head :
+  pub with_head :
       12 ≤ length bytes
       → CompileGives (translate_words (numbers_of bytes) o n) code out result
       → CompileGives (translate_entry bytes o n) code out result
   unfolding translate_entry translate_entry_number translate_words translate_tables tables_of
-  with-head h g = rw (le-leb 12 (length bytes) h) g
+  with_head h g = rw (le-leb 12 (length bytes) h) g

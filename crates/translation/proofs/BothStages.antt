@@ -16,8 +16,8 @@ use Rattle.translation.specs.Translated.{translated}
 use Rattle.translation.specs.Alike.{TranslatedAlike, CompiledAlike}
 use Rattle.translation.proofs.Flags.{length_flags}
 use Rattle.translation.proofs.States.{initial_state}
-use Rattle.translation.proofs.Passed.{translated-variables, translated-checked}
-use Rattle.translation.proofs.Alike.{translated-alike}
+use Rattle.translation.proofs.Passed.{translated_variables, translated_checked}
+use Rattle.translation.proofs.Alike.{translated_alike}
 
 -- Alike, and alike again.
 pub alike_through :
@@ -41,28 +41,28 @@ alike_through {counts} {originals} {r} {r'} {r''} first second =
 -- Of a task that keeps its rules, whose translated task keeps the limits. W is 0, and the limits of the finished task are not needed.
 module _ (t : FiniteTask) (rules : FiniteRules t) (limits : Limits (translated t)) where
   -- from a state and a compiled state that corresponds to its flags, whatever the list of operator numbers
-  pub compiled-alike :
+  pub compiled_alike :
       (s c : List ℕ)
       → FiniteState t.counts s
       → Corresponding (finished (translated t)).originals (flags_of t.counts s) c
       → (numbers : List ℕ)
       → CompiledAlike t.counts (finished (translated t)).originals (finite_run t s numbers)
       (plain_run (finished (translated t)) c numbers)
-  compiled-alike s c state states numbers =
-      alike_through (translated-alike t rules s state numbers)
-      (alike_from (translated t) (translated-checked t rules limits) (flags_of t.counts s) c
-      (length_flags t.counts s ∙ sym (translated-variables t)) states numbers)
+  compiled_alike s c state states numbers =
+      alike_through (translated_alike t rules s state numbers)
+      (alike_from (translated t) (translated_checked t rules limits) (flags_of t.counts s) c
+      (length_flags t.counts s ∙ sym (translated_variables t)) states numbers)
 
   -- the compiled task's initial state corresponds to the flags of the source's
-  pub compiled-initial :
+  pub compiled_initial :
       Corresponding (finished (translated t)).originals (flags_of t.counts t.initial) (finished (translated t)).initial
   unfolding translated
-  compiled-initial = initial_correspond (translated t) (translated-checked t rules limits)
+  compiled_initial = initial_correspond (translated t) (translated_checked t rules limits)
 
   -- from the initial states
-  pub compiled-alike-initial :
+  pub compiled_alike_initial :
       (numbers : List ℕ)
       → CompiledAlike t.counts (finished (translated t)).originals (finite_run t t.initial numbers)
       (plain_run (finished (translated t)) (finished (translated t)).initial numbers)
-  compiled-alike-initial numbers =
-      compiled-alike t.initial (finished (translated t)).initial (initial_state t rules) compiled-initial numbers
+  compiled_alike_initial numbers =
+      compiled_alike t.initial (finished (translated t)).initial (initial_state t rules) compiled_initial numbers

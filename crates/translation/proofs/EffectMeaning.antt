@@ -17,11 +17,11 @@ use Rattle.task.specs.Semantics.{Formula, holds, Atom, sets, clears, same_atom, 
 use Rattle.task.specs.Tree.{formula_of, effect_node, effect_of}
 use Rattle.task.specs.Inner.Rows.{EffectsDown}
 use Rattle.task.specs.Inner.Values.{bit}
-use Rattle.task.proofs.Bounded.{and_left, and_right, and_both, every_at, length-upto, getD-upto}
-use Rattle.task.proofs.Trees.{effect-unfolds, effect-appends}
+use Rattle.task.proofs.Bounded.{and_left, and_right, and_both, every_at, length_upto, getD_upto}
+use Rattle.task.proofs.Trees.{effect_unfolds, effect_appends}
 use Rattle.normal_form.specs.Growth.{Prefix}
 use Rattle.normal_form.specs.Assembly.{Written}
-use Rattle.normal_form.proofs.Growth.{prefix_refl, prefix-at, prefix-below}
+use Rattle.normal_form.proofs.Growth.{prefix_refl, prefix_at, prefix_below}
 use Rattle.normal_form.proofs.ShapeRule.{Sound}
 use Rattle.normal_form.proofs.ShapeWritten.{tree_kept}
 use Rattle.normal_form.proofs.MeaningActs.{or_regroup}
@@ -32,9 +32,9 @@ use Rattle.finite_domain.specs.Tree.{finite_formula_of, finite_effect_node, fini
 use Rattle.translation.specs.Flags.{first_flag, flag, flag_count, flags_of}
 use Rattle.translation.specs.Effects.{and_row, and_clear, and_clears, becomes_rows, effect_rows_by, Effects, effects_by}
 use Rattle.translation.proofs.Flags.{flag_below, flag_apart, first_flag_after, length_flags, flags_at, flags_unique}
-use Rattle.translation.proofs.Trees.{same_flag, finite-effect-unfolds}
+use Rattle.translation.proofs.Trees.{same_flag, finite_effect_unfolds}
 use Rattle.translation.proofs.States.{finite_apply_at}
-use Rattle.translation.proofs.EffectRows.{clear_row, both_row, set_row, cleared, cleared_sound, clear-skips, clear-adds, clears-sound, row-sound, becomes-sound, placed-front, effects-down, row_written, place_kept}
+use Rattle.translation.proofs.EffectRows.{clear_row, both_row, set_row, cleared, cleared_sound, clear_skips, clear_adds, clears_sound, row_sound, becomes_sound, placed_front, effects_down, row_written, place_kept}
 
 -- two tests that pass together are equal
 pub same_truth : (p q : Bool) → (p ≡ true → q ≡ true) → (q ≡ true → p ≡ true) → p ≡ q
@@ -117,7 +117,7 @@ other_and n d false p = other_none n d (λ k. false) (λ k l. refl)
 -- The trees of rows.
 module _ (formulas : List Row) (v f : ℕ) where
   -- a row just written, in a table that goes on from there
-  row-tree :
+  row_tree :
       (rows : List Row) (r : Row) (all : List Row)
       → EffectsDown v f all
       → Prefix (and_row rows r).rows all
@@ -125,44 +125,44 @@ module _ (formulas : List Row) (v f : ℕ) where
       ≡ effect_node (effect_kind r.kind) r.a (formula_of formulas r.a) (effect_of formulas all r.a)
       (effect_of formulas all r.b)
   unfolding and_row
-  row-tree rows r all down more =
+  row_tree rows r all down more =
       let i = length rows in
       let there : i < length (rows ++ (r ∷ [])) = simp length-append (omega arith) in
-      let e : get_or all i no_row ≡ r = prefix-at (rows ++ (r ∷ [])) all no_row i more there ∙ get_or-append_seam rows r [] no_row in
-      rw e at (effect-unfolds v f formulas all down i (prefix-below more i there))
+      let e : get_or all i no_row ≡ r = prefix_at (rows ++ (r ∷ [])) all no_row i more there ∙ get_or-append_seam rows r [] no_row in
+      rw e at (effect_unfolds v f formulas all down i (prefix_below more i there))
 
   -- a clear and its "both" with what stood
-  cleared-tree :
+  cleared_tree :
       (x : ℕ) (w : Written)
       → x < v
       → Sound v f w
       → effect_of formulas (cleared x w).rows (cleared x w).stands
       ≡ both (effect_of formulas w.rows w.stands) (atomic (clears x))
   unfolding effect_node effect_kind
-  cleared-tree x w h s =
+  cleared_tree x w h s =
       let down = (cleared_sound v f x w h s).down in
       let c = clear_row x in
       let b = both_row w.stands (length w.rows) in
       let all = w.rows ++ (c ∷ b ∷ []) in
       let one : effect_of formulas all (length w.rows) ≡ atomic (clears x) =
       rw (get_or-append_seam w.rows c (b ∷ []) no_row) at
-      (effect-unfolds v f formulas all down (length w.rows) (simp length-append (omega arith))) in
+      (effect_unfolds v f formulas all down (length w.rows) (simp length-append (omega arith))) in
       (rw (get_or-append-add w.rows (c ∷ b ∷ []) 1 no_row) at
-      (effect-unfolds v f formulas all down (length w.rows + 1) (simp length-append (omega arith))))
-      ∙ ap₂ both (effect-appends v f formulas w.rows s.down (c ∷ b ∷ []) w.stands s.there) one
+      (effect_unfolds v f formulas all down (length w.rows + 1) (simp length-append (omega arith))))
+      ∙ ap₂ both (effect_appends v f formulas w.rows s.down (c ∷ b ∷ []) w.stands s.there) one
 
   module _ (c : List ℕ) (l : Atom) (base d : ℕ) (w : Written) (sound : Sound v f w) where
     -- the clears add the clears of the values other than d
-    clears-effcond :
+    clears_effcond :
         (n : ℕ)
         → base + n ≤ v
         → let now = and_clears base d n w in
         effcond c l (effect_of formulas now.rows now.stands)
         ≡ (effcond c l (effect_of formulas w.rows w.stands) || some_other n d (λ k. same_atom l (clears (base + k))))
     unfolding and_clears some_other effcond
-    clears-effcond zero h = sym (or-false (effcond c l (effect_of formulas w.rows w.stands)))
-    clears-effcond (suc n) h =
-        go (ℕ_discrete n d) (clears-effcond n (omega arith)) (clears-sound base d w v f n (omega arith) sound)
+    clears_effcond zero h = sym (or-false (effcond c l (effect_of formulas w.rows w.stands)))
+    clears_effcond (suc n) h =
+        go (ℕ_discrete n d) (clears_effcond n (omega arith)) (clears_sound base d w v f n (omega arith) sound)
       where
         go :
             Dec (n ≡ d)
@@ -177,15 +177,15 @@ module _ (formulas : List Row) (v f : ℕ) where
         go (yes e) same s =
             let before = and_clears base d n w in
             let some = some_other n d (λ k. same_atom l (clears (base + k))) in
-            rw (clear-skips base d n before e, eq-eqb n d e, or-false some) same
+            rw (clear_skips base d n before e, eq-eqb n d e, or-false some) same
         go (no m) same s =
             let before = and_clears base d n w in
             let old = effcond c l (effect_of formulas w.rows w.stands) in
             let some = some_other n d (λ k. same_atom l (clears (base + k))) in
-            rw (clear-adds base d n before m, ne_eqb n d m, cleared-tree (base + n) before (omega arith) s, same)
+            rw (clear_adds base d n before m, ne_eqb n d m, cleared_tree (base + n) before (omega arith) s, same)
             (or_regroup old some (same_atom l (clears (base + n))))
 
-  becomes-effcond :
+  becomes_effcond :
       (c : List ℕ) (l : Atom) (counts : List ℕ) (rows : List Row) (a d : ℕ)
       → d < get_or counts a 0
       → first_flag counts a + get_or counts a 0 ≤ v
@@ -195,15 +195,15 @@ module _ (formulas : List Row) (v f : ℕ) where
       ≡ (same_atom l (sets (flag counts a d))
       || some_other (get_or counts a 0) d (λ k. same_atom l (clears (flag counts a k))))
   unfolding becomes_rows flag effcond effect_node effect_kind
-  becomes-effcond c l counts rows a d h fits down =
+  becomes_effcond c l counts rows a d h fits down =
       let base = first_flag counts a in
       let r = set_row (base + d) in
       let first = and_row rows r in
-      let sound : Sound v f first = row-sound rows r v f down (omega arith, refl) in
+      let sound : Sound v f first = row_sound rows r v f down (omega arith, refl) in
       let tree : effect_of formulas first.rows first.stands ≡ atomic (sets (base + d)) =
-      row-tree rows r first.rows sound.down (prefix_refl first.rows) in
+      row_tree rows r first.rows sound.down (prefix_refl first.rows) in
       let some = some_other (get_or counts a 0) d (λ k. same_atom l (clears (base + k))) in
-      clears-effcond c l base d first sound (get_or counts a 0) fits
+      clears_effcond c l base d first sound (get_or counts a 0) fits
       ∙ ap (λ (e : Effect). effcond c l e || some) tree
 
 -- An effect over flags does to the flags what a finite-domain effect does to the values: each flag is set under its assignment's condition, and cleared
@@ -223,9 +223,9 @@ pub record Flagwise (counts c s : List ℕ) (e : Effect) (g : FiniteEffect) : Ty
   pub clears_outside : (x : ℕ) → flag_count counts ≤ x → effcond c (clears x) e ≡ false
 
 module _ (counts c s : List ℕ) where
-  pub flagwise-empty : Flagwise counts c s empty finite_empty
+  pub flagwise_empty : Flagwise counts c s empty finite_empty
   unfolding effcond finite_effcond
-  flagwise-empty =
+  flagwise_empty =
       record {
         sets_flag = λ a d h l. refl;
         clears_flag = λ a d h l. sym (other_none (get_or counts a 0) d (λ k. false) (λ k b. refl));
@@ -233,13 +233,13 @@ module _ (counts c s : List ℕ) where
         clears_outside = λ x h. refl;
       }
 
-  pub flagwise-both :
+  pub flagwise_both :
       (e e' : Effect) (g g' : FiniteEffect)
       → Flagwise counts c s e g
       → Flagwise counts c s e' g'
       → Flagwise counts c s (both e e') (finite_both g g')
   unfolding effcond finite_effcond
-  flagwise-both e e' g g' p q =
+  flagwise_both e e' g g' p q =
       record {
         sets_flag = λ a d h l. ap₂ ◌||◌ (p.sets_flag a d h l) (q.sets_flag a d h l);
         clears_flag =
@@ -250,13 +250,13 @@ module _ (counts c s : List ℕ) where
         clears_outside = λ x h. ap₂ ◌||◌ (p.clears_outside x h) (q.clears_outside x h);
       }
 
-  pub flagwise-under :
+  pub flagwise_under :
       (p : Formula) (q : FiniteFormula) (e : Effect) (g : FiniteEffect)
       → holds c p ≡ finite_holds s q
       → Flagwise counts c s e g
       → Flagwise counts c s (under p e) (finite_under q g)
   unfolding effcond finite_effcond
-  flagwise-under p q e g same w =
+  flagwise_under p q e g same w =
       record {
         sets_flag = λ a d h l. ap₂ ◌&&◌ same (w.sets_flag a d h l);
         clears_flag =
@@ -268,13 +268,13 @@ module _ (counts c s : List ℕ) where
       }
 
   -- one of variable x's flags is cleared by "x becomes y" exactly if its value is another
-  becomes-clears :
+  becomes_clears :
       (x y a d : ℕ)
       → y < get_or counts x 0
       → d < get_or counts a 0
       → some_other (get_or counts x 0) y (λ k. eqb (flag counts a d) (flag counts x k))
       ≡ some_other (get_or counts a 0) d (λ k. eqb a x && eqb k y)
-  becomes-clears x y a d h l =
+  becomes_clears x y a d h l =
       same_truth (some_other (get_or counts x 0) y (λ k. eqb (flag counts a d) (flag counts x k)))
       (some_other (get_or counts a 0) d (λ k. eqb a x && eqb k y))
       (λ p. other_passes (get_or counts a 0) d (λ k. eqb a x && eqb k y) (there p))
@@ -310,7 +310,7 @@ module _ (counts c s : List ℕ) where
           }
 
   -- an effect that has the set of the flag of x and y and the clears of x's other flags, and no other atom
-  pub flagwise-becomes :
+  pub flagwise_becomes :
       (x y : ℕ) (e : Effect)
       → ValueRule counts x y
       → ((l : Atom)
@@ -319,14 +319,14 @@ module _ (counts c s : List ℕ) where
       || some_other (get_or counts x 0) y (λ k. same_atom l (clears (flag counts x k)))))
       → Flagwise counts c s e (becomes x y)
   unfolding finite_effcond
-  flagwise-becomes x y e rule is =
+  flagwise_becomes x y e rule is =
       record {
         sets_flag =
             λ a d h l.
             is (sets (flag counts a d))
             ∙ rw (none (flag counts a d)) (or-false (eqb (flag counts a d) (flag counts x y)))
             ∙ same_flag counts a d x y l rule.value;
-        clears_flag = λ a d h l. is (clears (flag counts a d)) ∙ becomes-clears x y a d rule.value l;
+        clears_flag = λ a d h l. is (clears (flag counts a d)) ∙ becomes_clears x y a d rule.value l;
         sets_outside =
             λ z h.
             is (sets z) ∙ rw (none z) (or-false (eqb z (flag counts x y)))
@@ -363,7 +363,7 @@ module _
   front e = effects_by t.counts f (take e t.effects)
 
   down : EffectsDown (flag_count t.counts) m all.rows
-  down = effects-down t.counts f (length t.formulas) m there t.effects rules.effect
+  down = effects_down t.counts f (length t.formulas) m there t.effects rules.effect
 
   -- source row e, over those before it
   kind_step :
@@ -384,36 +384,36 @@ module _
   kind_step e empty_kind a b h r more before =
       let counts = t.counts in
       let w = front e in
-      rw (row-tree formulas (flag_count counts) m w.rows (record { kind = 0; a = 0; b = 0 }) all.rows down more)
-      (flagwise-empty counts c s)
+      rw (row_tree formulas (flag_count counts) m w.rows (record { kind = 0; a = 0; b = 0 }) all.rows down more)
+      (flagwise_empty counts c s)
   kind_step e set_kind a b h r more before =
       let counts = t.counts in
       let w = front e in
-      let before-down = placed-front counts f (length t.formulas) m there t.effects rules.effect e (omega arith) in
+      let before-down = placed_front counts f (length t.formulas) m there t.effects rules.effect e (omega arith) in
       let fits : first_flag counts a + get_or counts a 0 ≤ flag_count counts = flags_within counts a r.variable in
       let n = becomes_rows counts w.rows a b in
-      let sound = becomes-sound counts w.rows a b (flag_count counts) m r.value fits before-down.down in
+      let sound = becomes_sound counts w.rows a b (flag_count counts) m r.value fits before-down.down in
       rw (tree_kept formulas n.stands sound.down more sound.there)
-      (flagwise-becomes counts c s a b (effect_of formulas n.rows n.stands) r
-      (λ l. becomes-effcond formulas (flag_count counts) m c l counts w.rows a b r.value fits before-down.down))
+      (flagwise_becomes counts c s a b (effect_of formulas n.rows n.stands) r
+      (λ l. becomes_effcond formulas (flag_count counts) m c l counts w.rows a b r.value fits before-down.down))
   kind_step e clear_kind a b h r more before = absurd r
   kind_step e both_kind a b h r more before =
       let counts = t.counts in
       let w = front e in
       let x = get_or w.at a 0 in
       let y = get_or w.at b 0 in
-      let tree = row-tree formulas (flag_count counts) m w.rows (both_row x y) all.rows down more in
+      let tree = row_tree formulas (flag_count counts) m w.rows (both_row x y) all.rows down more in
       rw (tree, place_kept counts f t.effects e a (omega arith) r.0, place_kept counts f t.effects e b (omega arith) r.1)
-      (flagwise-both counts c s (effect_of formulas all.rows (get_or all.at a 0))
+      (flagwise_both counts c s (effect_of formulas all.rows (get_or all.at a 0))
       (effect_of formulas all.rows (get_or all.at b 0)) (finite_effect_of t.formulas t.effects a)
       (finite_effect_of t.formulas t.effects b) (before a r.0) (before b r.1))
   kind_step e under_kind a b h r more before =
       let counts = t.counts in
       let w = front e in
       let row : Row = record { kind = 4; a = get_or f a 0; b = get_or w.at b 0 } in
-      let tree = row-tree formulas (flag_count counts) m w.rows row all.rows down more in
+      let tree = row_tree formulas (flag_count counts) m w.rows row all.rows down more in
       rw (tree, place_kept counts f t.effects e b (omega arith) r.1)
-      (flagwise-under counts c s (formula_of formulas (get_or f a 0)) (finite_formula_of t.formulas a)
+      (flagwise_under counts c s (formula_of formulas (get_or f a 0)) (finite_formula_of t.formulas a)
       (effect_of formulas all.rows (get_or all.at b 0)) (finite_effect_of t.formulas t.effects b) (same a r.0)
       (before b r.1))
   kind_step e unknown_effect a b h r more before = absurd r
@@ -428,18 +428,18 @@ module _
   within (suc n) e l h =
       let r = get_or t.effects e no_row in
       let written = row_written t.counts f t.effects e h in
-      rw (written.1, finite-effect-unfolds t rules e h)
+      rw (written.1, finite_effect_unfolds t rules e h)
       (kind_step e (finite_effect_kind r.kind) r.a r.b h (rules.effect e h) written.0
       (λ j b. within n j (omega arith) (omega arith)))
 
   -- each source effect, at its place
-  pub effect-flagwise :
+  pub effect_flagwise :
       (e : ℕ)
       → e < length t.effects
       → let all = effects_by t.counts f t.effects in
       Flagwise t.counts c s (effect_of formulas all.rows (get_or all.at e 0))
       (finite_effect_of t.formulas t.effects e)
-  effect-flagwise e h = within (suc e) e (omega arith) h
+  effect_flagwise e h = within (suc e) e (omega arith) h
 
 -- The value after a step, of a test that at most one value passes.
 pub value_found :
@@ -545,7 +545,7 @@ unfolding apply value_after bit
 flagwise_apply counts s e g w ok =
     let flags = flags_of counts s in
     flags_unique counts (finite_apply counts s g) (upto (length flags) (value_after flags e))
-    (length-upto (length flags) (value_after flags e) ∙ length_flags counts s) at
+    (length_upto (length flags) (value_after flags e) ∙ length_flags counts s) at
   where
     after :
         (a d : ℕ)
@@ -566,7 +566,7 @@ flagwise_apply counts s e g w ok =
         → get_or (upto (length (flags_of counts s)) (value_after (flags_of counts s) e)) (flag counts a d) 0
         ≡ cond (eqb d (get_or (finite_apply counts s g) a 0)) 1 0
     at a d h l =
-        getD-upto (length (flags_of counts s)) (value_after (flags_of counts s) e) (flag counts a d) 0
+        getD_upto (length (flags_of counts s)) (value_after (flags_of counts s) e) (flag counts a d) 0
         (rw (length_flags counts s) (flag_below counts a d h l))
         ∙ after a d h l
 
@@ -587,4 +587,4 @@ apply_flags t rules f formulas m s there same e h ok =
     let all = effects_by t.counts f t.effects in
     flagwise_apply t.counts s (effect_of formulas all.rows (get_or all.at e 0))
     (finite_effect_of t.formulas t.effects e)
-    (effect-flagwise t rules f formulas m (flags_of t.counts s) s there same e h) ok
+    (effect_flagwise t rules f formulas m (flags_of t.counts s) s there same e h) ok

@@ -10,7 +10,7 @@ use Rattle.task.specs.Rules.{no_row}
 use Rattle.task.specs.Semantics.{Formula, negation, conjunction, disjunction, implication, equivalence, Effect, both, under}
 use Rattle.task.specs.Tree.{formula_node, formula_of, effect_node, effect_of}
 use Rattle.task.specs.Inner.Rows.{FormulaKept, FormulasDown, EffectKept, EffectsDown}
-use Rattle.task.proofs.Trees.{formula-unfolds, effect-unfolds}
+use Rattle.task.proofs.Trees.{formula_unfolds, effect_unfolds}
 use Rattle.finite_domain.specs.Table.{FiniteTask, finite_formula_kind, finite_effect_kind}
 use Rattle.finite_domain.specs.Rules.{FiniteFormulaRule, FiniteEffectRule, FiniteRules}
 use Rattle.finite_domain.specs.Meaning.{FiniteFormula, FiniteEffect}
@@ -18,7 +18,7 @@ use Rattle.finite_domain.specs.Tree.{finite_formula_node, finite_formula_of, fin
 use Rattle.translation.specs.Flags.{flag_count, flagged_formula, flagged_effect}
 use Rattle.translation.specs.Inner.Rows.{flagged_formula_row, flagged_effect_row, flagged_formulas, flagged_effects}
 use Rattle.translation.proofs.Flags.{flag_below}
-use Rattle.translation.proofs.Trees.{finite-formula-unfolds, finite-effect-unfolds}
+use Rattle.translation.proofs.Trees.{finite_formula_unfolds, finite_effect_unfolds}
 
 -- the row of these words
 abbrev words : (kind a b : ℕ) → Row
@@ -101,88 +101,88 @@ effect_row_tree counts f i (suc (suc (suc (suc (suc (suc n)))))) a b formulas fo
     absurd r
 
 module _ (t : FiniteTask) where
-  pub length-flagged-formulas : length (flagged_formulas t) ≡ length t.formulas
+  pub length_flagged_formulas : length (flagged_formulas t) ≡ length t.formulas
   unfolding flagged_formulas
-  length-flagged-formulas = length-map t.formulas (flagged_formula_row t.counts)
+  length_flagged_formulas = length-map t.formulas (flagged_formula_row t.counts)
 
-  pub length-flagged-effects : length (flagged_effects t) ≡ length t.effects
+  pub length_flagged_effects : length (flagged_effects t) ≡ length t.effects
   unfolding flagged_effects
-  length-flagged-effects = length-map t.effects (flagged_effect_row t.counts)
+  length_flagged_effects = length-map t.effects (flagged_effect_row t.counts)
 
   -- row i, past the end too
-  pub flagged-formulas-at :
+  pub flagged_formulas_at :
       (i : ℕ) → get_or (flagged_formulas t) i no_row ≡ flagged_formula_row t.counts (get_or t.formulas i no_row)
   unfolding flagged_formulas flagged_formula_row
-  flagged-formulas-at i = get_or-map (flagged_formula_row t.counts) t.formulas i no_row
+  flagged_formulas_at i = get_or-map (flagged_formula_row t.counts) t.formulas i no_row
 
-  pub flagged-effects-at :
+  pub flagged_effects_at :
       (i : ℕ) → get_or (flagged_effects t) i no_row ≡ flagged_effect_row t.counts (get_or t.effects i no_row)
   unfolding flagged_effects flagged_effect_row
-  flagged-effects-at i = get_or-map (flagged_effect_row t.counts) t.effects i no_row
+  flagged_effects_at i = get_or-map (flagged_effect_row t.counts) t.effects i no_row
 
 module _ (t : FiniteTask) (rules : FiniteRules t) where
-  pub flagged-formulas-down : FormulasDown (flag_count t.counts) (flagged_formulas t)
-  flagged-formulas-down =
+  pub flagged_formulas_down : FormulasDown (flag_count t.counts) (flagged_formulas t)
+  flagged_formulas_down =
       record {
         row =
             λ i h.
             let r = get_or t.formulas i no_row in
-            rw (flagged-formulas-at t i)
-            (formula_row_kept t.counts i r.kind r.a r.b (rules.formula i (omega (arith, length-flagged-formulas t))));
+            rw (flagged_formulas_at t i)
+            (formula_row_kept t.counts i r.kind r.a r.b (rules.formula i (omega (arith, length_flagged_formulas t))));
       }
 
-  pub flagged-effects-down : EffectsDown (flag_count t.counts) (length t.formulas) (flagged_effects t)
-  flagged-effects-down =
+  pub flagged_effects_down : EffectsDown (flag_count t.counts) (length t.formulas) (flagged_effects t)
+  flagged_effects_down =
       record {
         row =
             λ i h.
             let r = get_or t.effects i no_row in
-            rw (flagged-effects-at t i)
+            rw (flagged_effects_at t i)
             (effect_row_kept t.counts (length t.formulas) i r.kind r.a r.b
-            (rules.effect i (omega (arith, length-flagged-effects t))));
+            (rules.effect i (omega (arith, length_flagged_effects t))));
       }
 
-  formula-tree-below :
+  formula_tree_below :
       (n i : ℕ)
       → i < n
       → i < length t.formulas
       → formula_of (flagged_formulas t) i ≡ flagged_formula t.counts (finite_formula_of t.formulas i)
-  formula-tree-below zero i l h = absurd (not-suc-le-zero l)
-  formula-tree-below (suc n) i l h =
+  formula_tree_below zero i l h = absurd (not-suc-le-zero l)
+  formula_tree_below (suc n) i l h =
       let r = get_or t.formulas i no_row in
-      formula-unfolds (flag_count t.counts) (flagged_formulas t) flagged-formulas-down i
-      (omega (arith, length-flagged-formulas t))
-      ∙ rw (flagged-formulas-at t i, finite-formula-unfolds t rules i h)
+      formula_unfolds (flag_count t.counts) (flagged_formulas t) flagged_formulas_down i
+      (omega (arith, length_flagged_formulas t))
+      ∙ rw (flagged_formulas_at t i, finite_formula_unfolds t rules i h)
       (formula_row_tree t.counts i r.kind r.a r.b (formula_of (flagged_formulas t))
       (finite_formula_of t.formulas) (rules.formula i h)
-      (λ j b. formula-tree-below n j (omega arith) (omega arith)))
+      (λ j b. formula_tree_below n j (omega arith) (omega arith)))
 
-  pub flagged-formula-tree :
+  pub flagged_formula_tree :
       (i : ℕ)
       → i < length t.formulas
       → formula_of (flagged_formulas t) i ≡ flagged_formula t.counts (finite_formula_of t.formulas i)
-  flagged-formula-tree i h = formula-tree-below (suc i) i (omega arith) h
+  flagged_formula_tree i h = formula_tree_below (suc i) i (omega arith) h
 
-  effect-tree-below :
+  effect_tree_below :
       (n i : ℕ)
       → i < n
       → i < length t.effects
       → effect_of (flagged_formulas t) (flagged_effects t) i
       ≡ flagged_effect t.counts (finite_effect_of t.formulas t.effects i)
-  effect-tree-below zero i l h = absurd (not-suc-le-zero l)
-  effect-tree-below (suc n) i l h =
+  effect_tree_below zero i l h = absurd (not-suc-le-zero l)
+  effect_tree_below (suc n) i l h =
       let r = get_or t.effects i no_row in
-      effect-unfolds (flag_count t.counts) (length t.formulas) (flagged_formulas t) (flagged_effects t)
-      flagged-effects-down i (omega (arith, length-flagged-effects t))
-      ∙ rw (flagged-effects-at t i, finite-effect-unfolds t rules i h)
+      effect_unfolds (flag_count t.counts) (length t.formulas) (flagged_formulas t) (flagged_effects t)
+      flagged_effects_down i (omega (arith, length_flagged_effects t))
+      ∙ rw (flagged_effects_at t i, finite_effect_unfolds t rules i h)
       (effect_row_tree t.counts (length t.formulas) i r.kind r.a r.b (formula_of (flagged_formulas t))
       (finite_formula_of t.formulas) (effect_of (flagged_formulas t) (flagged_effects t))
-      (finite_effect_of t.formulas t.effects) (rules.effect i h) flagged-formula-tree
-      (λ j b. effect-tree-below n j (omega arith) (omega arith)))
+      (finite_effect_of t.formulas t.effects) (rules.effect i h) flagged_formula_tree
+      (λ j b. effect_tree_below n j (omega arith) (omega arith)))
 
-  pub flagged-effect-tree :
+  pub flagged_effect_tree :
       (i : ℕ)
       → i < length t.effects
       → effect_of (flagged_formulas t) (flagged_effects t) i
       ≡ flagged_effect t.counts (finite_effect_of t.formulas t.effects i)
-  flagged-effect-tree i h = effect-tree-below (suc i) i (omega arith) h
+  flagged_effect_tree i h = effect_tree_below (suc i) i (omega arith) h

@@ -12,7 +12,7 @@ use lib.Dec.{eqb}
 use borrow.Author.Tests.{eq-eqb, ne_eqb}
 use Rattle.task.specs.Bounded.{upto}
 use Rattle.task.specs.Inner.Values.{bit}
-use Rattle.task.proofs.Bounded.{length-upto, getD-upto}
+use Rattle.task.proofs.Bounded.{length_upto, getD_upto}
 use Rattle.task.proofs.Values.{bit_small}
 use Rattle.finite_domain.specs.Run.{FiniteState}
 use Rattle.translation.specs.Flags.{first_flag, flag, flag_count, own_flags, flags_below, flags_of, OneFlagEach}
@@ -103,7 +103,7 @@ length_flags_below counts s zero = refl
 length_flags_below counts s (suc n) =
     let f : ℕ → ℕ = λ k. cond (eqb k (get_or s n 0)) 1 0 in
     length-append (flags_below counts s n) (upto (get_or counts n 0) f)
-    ∙ rw (length_flags_below counts s n, length-upto (get_or counts n 0) f)
+    ∙ rw (length_flags_below counts s n, length_upto (get_or counts n 0) f)
 
 pub length_flags : (counts s : List ℕ) → length (flags_of counts s) ≡ flag_count counts
 unfolding flags_of flag_count
@@ -123,7 +123,7 @@ module _ (counts s : List ℕ) (a d : ℕ) (l : d < get_or counts a 0) where
       get_or-append before own 0 (first_flag counts a + d) (omega (arith, first_flag_after counts a n b)) ∙ below_at n b)
       (λ q.
       let fits : d < get_or counts n 0 = rw q at l in
-      rw (q, ← long) (get_or-append-add before own d 0 ∙ getD-upto (get_or counts n 0) f d 0 fits))
+      rw (q, ← long) (get_or-append-add before own d 0 ∙ getD_upto (get_or counts n 0) f d 0 fits))
 
 -- what stands at a valid flag
 pub flags_at :

@@ -16,7 +16,7 @@ use Rattle.task.specs.Inner.Rows.{FormulasDown}
 use Rattle.task.proofs.Bounded.{every_at, every_from, every_same}
 use Rattle.task.proofs.Down.{formulas_wider}
 use Rattle.normal_form.proofs.Meaning.{Good}
-use Rattle.normal_form.proofs.Twinless.{means-alone}
+use Rattle.normal_form.proofs.Twinless.{means_alone}
 use Rattle.finite_domain.specs.Table.{FiniteTask}
 use Rattle.finite_domain.specs.Rules.{FiniteRules}
 use Rattle.finite_domain.specs.Meaning.{FiniteEffect, finite_holds, finite_effcond, clash, consistent}
@@ -25,11 +25,11 @@ use Rattle.finite_domain.specs.Run.{finite_operator_of, finite_effect_of_operato
 use Rattle.translation.specs.Flags.{flag, flag_count, flags_of, flagged_formula, flagged_effect}
 use Rattle.translation.specs.Translated.{guarded, formulas_at}
 use Rattle.translation.proofs.Flags.{length_flags, flags_bits}
-use Rattle.translation.proofs.Trees.{RangedEffect, flagged_holds, flagged_effcond, ranged-formula, ranged-precondition, ranged-operator}
+use Rattle.translation.proofs.Trees.{RangedEffect, flagged_holds, flagged_effcond, ranged_formula, ranged_precondition, ranged_operator}
 use Rattle.translation.proofs.EffectMeaning.{same_truth}
 use Rattle.translation.proofs.NoTwins.{no_twins}
 use Rattle.translation.proofs.GuardSteps.{AnyKind}
-use Rattle.translation.proofs.GuardMeaning.{apart_pair, apart, formula_over, asked_over, GuardsMean, good-guards}
+use Rattle.translation.proofs.GuardMeaning.{apart_pair, apart, formula_over, asked_over, GuardsMean, good_guards}
 
 -- Each two numbers d < d' below m, in the order of either loop.
 each_two :
@@ -87,79 +87,79 @@ module _ (t : FiniteTask) (rules : FiniteRules t) where
 
   good : Good AnyKind (flag_count t.counts) (GuardsMean t) (guarded t)
   unfolding guarded
-  good = good-guards t rules
+  good = good_guards t rules
 
-  twins-none : (guarded t).st.twins ≡ []
+  twins_none : (guarded t).st.twins ≡ []
   unfolding guarded
-  twins-none = no_twins t
+  twins_none = no_twins t
 
   -- the shape of the rows
-  pub guarded-down : FormulasDown (flag_count t.counts) (guarded t).st.rows
-  guarded-down = formulas_wider n (omega (arith, ap length twins-none)) good.fine.down
+  pub guarded_down : FormulasDown (flag_count t.counts) (guarded t).st.rows
+  guarded_down = formulas_wider n (omega (arith, ap length twins_none)) good.fine.down
 
-  pub guarded-false : get_or (guarded t).st.rows 0 no_row ≡ record { kind = 0; a = 0; b = 0 }
-  guarded-false = good.fine.row_false
+  pub guarded_false : get_or (guarded t).st.rows 0 no_row ≡ record { kind = 0; a = 0; b = 0 }
+  guarded_false = good.fine.row_false
 
-  pub guarded-true : get_or (guarded t).st.rows 1 no_row ≡ record { kind = 1; a = 0; b = 0 }
-  guarded-true = good.fine.row_true
+  pub guarded_true : get_or (guarded t).st.rows 1 no_row ≡ record { kind = 1; a = 0; b = 0 }
+  guarded_true = good.fine.row_true
 
-  pub guarded-two : 2 ≤ length (guarded t).st.rows
-  guarded-two = good.fine.two
+  pub guarded_two : 2 ≤ length (guarded t).st.rows
+  guarded_two = good.fine.two
 
-  pub formulas-count : length (formulas_at t) ≡ length t.formulas
+  pub formulas_count : length (formulas_at t) ≡ length t.formulas
   unfolding formulas_at
-  formulas-count = good.value.formulas.count
+  formulas_count = good.value.formulas.count
 
-  pub preconditions-count : length (guarded t).value.preconditions ≡ length t.operators
-  preconditions-count = good.value.preconditions.count
+  pub preconditions_count : length (guarded t).value.preconditions ≡ length t.operators
+  preconditions_count = good.value.preconditions.count
 
-  pub formula-below : (i : ℕ) → i < length t.formulas → get_or (formulas_at t) i 0 < length (guarded t).st.rows
+  pub formula_below : (i : ℕ) → i < length t.formulas → get_or (formulas_at t) i 0 < length (guarded t).st.rows
   unfolding formulas_at
-  formula-below i h = (good.value.formulas.at 0 i h).below
+  formula_below i h = (good.value.formulas.at 0 i h).below
 
-  pub precondition-below :
+  pub precondition_below :
       (o : ℕ) → o < length t.operators → get_or (guarded t).value.preconditions o 0 < length (guarded t).st.rows
-  precondition-below o h = (good.value.preconditions.at 0 o h).below
+  precondition_below o h = (good.value.preconditions.at 0 o h).below
 
   -- In flags c, each 0 or 1.
   module _ (c : List ℕ) (width : length c ≡ flag_count t.counts) (bits : (v : ℕ) → v < length c → get_or c v 0 ≤ 1) where
-    pub formula-means :
+    pub formula_means :
         (i : ℕ)
         → i < length t.formulas
         → holds c (formula_of (guarded t).st.rows (get_or (formulas_at t) i 0))
         ≡ holds c (flagged_formula t.counts (finite_formula_of t.formulas i))
     unfolding formulas_at formula_over
-    formula-means i h = means-alone (guarded t).st twins-none c width bits (good.value.formulas.at 0 i h)
+    formula_means i h = means_alone (guarded t).st twins_none c width bits (good.value.formulas.at 0 i h)
 
-    pub precondition-means :
+    pub precondition_means :
         (o : ℕ)
         → o < length t.operators
         → holds c (formula_of (guarded t).st.rows (get_or (guarded t).value.preconditions o 0))
         ≡ (holds c (flagged_formula t.counts (finite_formula_of t.formulas (finite_operator_of t o).precondition))
         && apart t.counts (flagged_effect t.counts (finite_effect_of_operator t o)) c)
     unfolding asked_over formula_over
-    precondition-means o h = means-alone (guarded t).st twins-none c width bits (good.value.preconditions.at 0 o h)
+    precondition_means o h = means_alone (guarded t).st twins_none c width bits (good.value.preconditions.at 0 o h)
 
   -- In the flags of s.
   module _ (s : List ℕ) where
-    pub formula-in-state :
+    pub formula_in_state :
         (i : ℕ)
         → i < length t.formulas
         → holds (flags_of t.counts s) (formula_of (guarded t).st.rows (get_or (formulas_at t) i 0))
         ≡ finite_holds s (finite_formula_of t.formulas i)
-    formula-in-state i h =
-        formula-means (flags_of t.counts s) (length_flags t.counts s) (λ v b. flags_bits t.counts s v) i h
-        ∙ flagged_holds t.counts s (finite_formula_of t.formulas i) (ranged-formula t rules i h)
+    formula_in_state i h =
+        formula_means (flags_of t.counts s) (length_flags t.counts s) (λ v b. flags_bits t.counts s v) i h
+        ∙ flagged_holds t.counts s (finite_formula_of t.formulas i) (ranged_formula t rules i h)
 
-    pub precondition-in-state :
+    pub precondition_in_state :
         (o : ℕ)
         → o < length t.operators
         → holds (flags_of t.counts s) (formula_of (guarded t).st.rows (get_or (guarded t).value.preconditions o 0))
         ≡ (finite_holds s (finite_formula_of t.formulas (finite_operator_of t o).precondition)
         && consistent t.counts s (finite_effect_of_operator t o))
-    precondition-in-state o h =
-        precondition-means (flags_of t.counts s) (length_flags t.counts s) (λ v b. flags_bits t.counts s v) o h
+    precondition_in_state o h =
+        precondition_means (flags_of t.counts s) (length_flags t.counts s) (λ v b. flags_bits t.counts s v) o h
         ∙ ap₂ ◌&&◌
         (flagged_holds t.counts s (finite_formula_of t.formulas (finite_operator_of t o).precondition)
-        (ranged-precondition t rules o h))
-        (apart_consistent t.counts s (finite_effect_of_operator t o) (ranged-operator t rules o h))
+        (ranged_precondition t rules o h))
+        (apart_consistent t.counts s (finite_effect_of_operator t o) (ranged_operator t rules o h))

@@ -12,7 +12,7 @@ use Rattle.normal_form.specs.Builder.{St, Build, give, bind, row, join, plain}
 use Rattle.normal_form.specs.Growth.{Grows, Steady}
 use Rattle.normal_form.proofs.Growth.{grows_trans, steady_row, steady_join}
 use Rattle.normal_form.proofs.Fine.{Joins, Fine, every_joins}
-use Rattle.normal_form.proofs.Meaning.{Means, Good, means_as, means_later, means_alike, means_falsity, good_bind, good_give, good-join}
+use Rattle.normal_form.proofs.Meaning.{Means, Good, means_as, means_later, means_alike, means_falsity, good_bind, good_give, good_join}
 use Rattle.normal_form.proofs.MeaningImage.{good_as}
 use Rattle.normal_form.proofs.MeaningCopy.{good_not}
 use Rattle.translation.specs.Pairs.{through, without_both, unless_never}
@@ -108,9 +108,9 @@ never_right y z e = rw (e, and_false y)
 
 -- Rows one and other of some meaning: "not both" is joined, or is true where one of the two is row 0.
 module _ {n : ℕ} (s : St) (y z : List ℕ → Bool) (one other : ℕ) (fine-s : Fine AnyKind n s) (my : Means n y s one) (mz : Means n z s other) where
-  conjoins-without : Conjoins n s (λ c. not (y c && z c)) (without_both one other)
+  conjoins_without : Conjoins n s (λ c. not (y c && z c)) (without_both one other)
   unfolding without_both
-  conjoins-without =
+  conjoins_without =
       record {
         joined =
             λ p x t g fine m.
@@ -118,18 +118,18 @@ module _ {n : ℕ} (s : St) (y z : List ℕ → Bool) (one other : ℕ) (fine-s 
             let k = join plain one other t in
             good_bind {Q = Q} (join plain one other)
             (λ k. bind (row (record { kind = 3; a = k; b = 0 })) (λ q. join plain p q)) t
-            (good-join any_joins plain t one other fine (means_later fine-s g my) (means_later fine-s g mz))
+            (good_join any_joins plain t one other fine (means_later fine-s g my) (means_later fine-s g mz))
             (λ fine' m'.
             let r = row (record { kind = 3; a = k.value; b = 0 }) k.st in
             good_bind {Q = Q} (row (record { kind = 3; a = k.value; b = 0 })) (λ q. join plain p q) k.st
             (good_not k.st k.value fine' (any_kind not_kind) m')
             (λ fine'' m''.
-            good-join any_joins plain r.st p r.value fine''
+            good_join any_joins plain r.st p r.value fine''
             (means_later fine (grows_trans ((steady_join plain one other).grow t) ((steady_row _).grow k.st)) m) m''));
       }
 
-  pub conjoins-unless : Conjoins n s (λ c. not (y c && z c)) (unless_never one other)
+  pub conjoins_unless : Conjoins n s (λ c. not (y c && z c)) (unless_never one other)
   unfolding unless_never
-  conjoins-unless =
+  conjoins_unless =
       conjoins_never s one y fine-s my (λ c. never_left (y c) (z c))
-      (conjoins_never s other z fine-s mz (λ c. never_right (y c) (z c)) conjoins-without)
+      (conjoins_never s other z fine-s mz (λ c. never_right (y c) (z c)) conjoins_without)

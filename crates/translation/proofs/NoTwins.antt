@@ -8,7 +8,7 @@ use Rattle.task.specs.Semantics.{sets}
 use Rattle.normal_form.specs.Builder.{Build, plain, start}
 use Rattle.normal_form.specs.Copy.{itself}
 use Rattle.normal_form.proofs.Twinless.{Twinless, twinless_give, twinless_bind, twinless_row, twinless_join, twinless_each, twinless_cond}
-use Rattle.normal_form.proofs.Twinless.{twinless_copy, twinless_itself, twinless-condition}
+use Rattle.normal_form.proofs.Twinless.{twinless_copy, twinless_itself, twinless_condition}
 use Rattle.finite_domain.specs.Table.{FiniteTask}
 use Rattle.translation.specs.Pairs.{through, copies, effconds, without_both, unless_never, pair_of, pairs_of, pairs, guarded_operator, guards}
 
@@ -40,7 +40,7 @@ pairs_twinless counts cs p =
 pub operator_twinless : (t : FiniteTask) (at : List ℕ) (o : ℕ) → Twinless (guarded_operator t at o)
 unfolding guarded_operator effconds
 operator_twinless t at o =
-    twinless_bind (twinless_each _ (λ x. twinless-condition itself twinless_itself plain (sets x) _)) (λ cs. pairs_twinless t.counts cs _)
+    twinless_bind (twinless_each _ (λ x. twinless_condition itself twinless_itself plain (sets x) _)) (λ cs. pairs_twinless t.counts cs _)
 
 pub guards_twinless : (t : FiniteTask) → Twinless (guards t)
 unfolding guards copies

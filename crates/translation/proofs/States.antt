@@ -5,7 +5,7 @@ use mathlib.Core.Path.{◌≡◌}
 use mathlib.Core.Bool.{Bool, true, false, cond}
 use mathlib.Core.List.{List}
 use lib.ListN.{length, get_or}
-use Rattle.task.proofs.Bounded.{length-upto, getD-upto}
+use Rattle.task.proofs.Bounded.{length_upto, getD_upto}
 use Rattle.finite_domain.specs.Table.{FiniteTask}
 use Rattle.finite_domain.specs.Rules.{FiniteRules}
 use Rattle.finite_domain.specs.Meaning.{FiniteEffect, finite_effcond, value_or, finite_apply}
@@ -27,12 +27,12 @@ pub finite_apply_at :
     → get_or (finite_apply counts s e) a 0 ≡ value_or (get_or counts a 0) (λ d. finite_effcond s a d e) (get_or s a 0)
 unfolding finite_apply
 finite_apply_at counts s e a h =
-    getD-upto (length counts) (λ a. value_or (get_or counts a 0) (λ d. finite_effcond s a d e) (get_or s a 0)) a 0 h
+    getD_upto (length counts) (λ a. value_or (get_or counts a 0) (λ d. finite_effcond s a d e) (get_or s a 0)) a 0 h
 
 pub length_finite_apply : (counts s : List ℕ) (e : FiniteEffect) → length (finite_apply counts s e) ≡ length counts
 unfolding finite_apply
 length_finite_apply counts s e =
-    length-upto (length counts) (λ a. value_or (get_or counts a 0) (λ d. finite_effcond s a d e) (get_or s a 0))
+    length_upto (length counts) (λ a. value_or (get_or counts a 0) (λ d. finite_effcond s a d e) (get_or s a 0))
 
 pub finite_apply_state :
     (counts s : List ℕ) (e : FiniteEffect) → FiniteState counts s → FiniteState counts (finite_apply counts s e)

@@ -182,22 +182,22 @@ effect_node_ranged counts f i unknown_effect a b p e g r formula left right = ab
 -- The trees of a task that keeps its rules.
 module _ (t : FiniteTask) (rules : FiniteRules t) where
   -- any two depths that are deep enough give the same tree
-  formula-deep :
+  formula_deep :
       (d e i : ℕ)
       → i < d
       → i < e
       → i < length t.formulas
       → finite_formula_within d t.formulas i ≡ finite_formula_within e t.formulas i
   unfolding finite_formula_within
-  formula-deep zero e i h g b = absurd (not-suc-le-zero h)
-  formula-deep (suc d) zero i h g b = absurd (not-suc-le-zero g)
-  formula-deep (suc d) (suc e) i h g b =
+  formula_deep zero e i h g b = absurd (not-suc-le-zero h)
+  formula_deep (suc d) zero i h g b = absurd (not-suc-le-zero g)
+  formula_deep (suc d) (suc e) i h g b =
       let r = get_or t.formulas i no_row in
       formula_node_same t.counts i (finite_formula_kind r.kind) r.a r.b (rules.formula i b)
-      (λ l. formula-deep d e r.a (omega arith) (omega arith) (omega arith))
-      (λ l. formula-deep d e r.b (omega arith) (omega arith) (omega arith))
+      (λ l. formula_deep d e r.a (omega arith) (omega arith) (omega arith))
+      (λ l. formula_deep d e r.b (omega arith) (omega arith) (omega arith))
 
-  pub finite-formula-unfolds :
+  pub finite_formula_unfolds :
       (i : ℕ)
       → i < length t.formulas
       → let r = get_or t.formulas i no_row in
@@ -205,29 +205,29 @@ module _ (t : FiniteTask) (rules : FiniteRules t) where
       ≡ finite_formula_node (finite_formula_kind r.kind) r.a r.b (finite_formula_of t.formulas r.a)
       (finite_formula_of t.formulas r.b)
   unfolding finite_formula_of finite_formula_within
-  finite-formula-unfolds i b =
+  finite_formula_unfolds i b =
       let r = get_or t.formulas i no_row in
       formula_node_same t.counts i (finite_formula_kind r.kind) r.a r.b (rules.formula i b)
-      (λ l. formula-deep i (suc r.a) r.a l (omega arith) (omega arith))
-      (λ l. formula-deep i (suc r.b) r.b l (omega arith) (omega arith))
+      (λ l. formula_deep i (suc r.a) r.a l (omega arith) (omega arith))
+      (λ l. formula_deep i (suc r.b) r.b l (omega arith) (omega arith))
 
-  effect-deep :
+  effect_deep :
       (d e i : ℕ)
       → i < d
       → i < e
       → i < length t.effects
       → finite_effect_within d t.formulas t.effects i ≡ finite_effect_within e t.formulas t.effects i
   unfolding finite_effect_within
-  effect-deep zero e i h g b = absurd (not-suc-le-zero h)
-  effect-deep (suc d) zero i h g b = absurd (not-suc-le-zero g)
-  effect-deep (suc d) (suc e) i h g b =
+  effect_deep zero e i h g b = absurd (not-suc-le-zero h)
+  effect_deep (suc d) zero i h g b = absurd (not-suc-le-zero g)
+  effect_deep (suc d) (suc e) i h g b =
       let r = get_or t.effects i no_row in
       effect_node_same t.counts (length t.formulas) i (finite_effect_kind r.kind) r.a r.b
       (finite_formula_of t.formulas r.a) (rules.effect i b)
-      (λ l. effect-deep d e r.a (omega arith) (omega arith) (omega arith))
-      (λ l. effect-deep d e r.b (omega arith) (omega arith) (omega arith))
+      (λ l. effect_deep d e r.a (omega arith) (omega arith) (omega arith))
+      (λ l. effect_deep d e r.b (omega arith) (omega arith) (omega arith))
 
-  pub finite-effect-unfolds :
+  pub finite_effect_unfolds :
       (i : ℕ)
       → i < length t.effects
       → let r = get_or t.effects i no_row in
@@ -235,55 +235,55 @@ module _ (t : FiniteTask) (rules : FiniteRules t) where
       ≡ finite_effect_node (finite_effect_kind r.kind) r.a r.b (finite_formula_of t.formulas r.a)
       (finite_effect_of t.formulas t.effects r.a) (finite_effect_of t.formulas t.effects r.b)
   unfolding finite_effect_of finite_effect_within
-  finite-effect-unfolds i b =
+  finite_effect_unfolds i b =
       let r = get_or t.effects i no_row in
       effect_node_same t.counts (length t.formulas) i (finite_effect_kind r.kind) r.a r.b
       (finite_formula_of t.formulas r.a) (rules.effect i b)
-      (λ l. effect-deep i (suc r.a) r.a l (omega arith) (omega arith))
-      (λ l. effect-deep i (suc r.b) r.b l (omega arith) (omega arith))
+      (λ l. effect_deep i (suc r.a) r.a l (omega arith) (omega arith))
+      (λ l. effect_deep i (suc r.b) r.b l (omega arith) (omega arith))
 
-  formula-within-ranged :
+  formula_within_ranged :
       (d i : ℕ) → i < length t.formulas → Ranged t.counts (finite_formula_within d t.formulas i)
   unfolding finite_formula_within
-  formula-within-ranged zero i b = tt
-  formula-within-ranged (suc d) i b =
+  formula_within_ranged zero i b = tt
+  formula_within_ranged (suc d) i b =
       let r = get_or t.formulas i no_row in
       formula_node_ranged t.counts i (finite_formula_kind r.kind) r.a r.b
       (finite_formula_within d t.formulas r.a) (finite_formula_within d t.formulas r.b) (rules.formula i b)
-      (λ l. formula-within-ranged d r.a (omega arith)) (λ l. formula-within-ranged d r.b (omega arith))
+      (λ l. formula_within_ranged d r.a (omega arith)) (λ l. formula_within_ranged d r.b (omega arith))
 
-  pub ranged-formula :
+  pub ranged_formula :
       (i : ℕ) → i < length t.formulas → Ranged t.counts (finite_formula_of t.formulas i)
   unfolding finite_formula_of
-  ranged-formula i b = formula-within-ranged (suc i) i b
+  ranged_formula i b = formula_within_ranged (suc i) i b
 
-  effect-within-ranged :
+  effect_within_ranged :
       (d i : ℕ)
       → i < length t.effects
       → RangedEffect t.counts (finite_effect_within d t.formulas t.effects i)
   unfolding finite_effect_within
-  effect-within-ranged zero i b = tt
-  effect-within-ranged (suc d) i b =
+  effect_within_ranged zero i b = tt
+  effect_within_ranged (suc d) i b =
       let r = get_or t.effects i no_row in
       effect_node_ranged t.counts (length t.formulas) i (finite_effect_kind r.kind) r.a r.b
       (finite_formula_of t.formulas r.a) (finite_effect_within d t.formulas t.effects r.a)
-      (finite_effect_within d t.formulas t.effects r.b) (rules.effect i b) (λ l. ranged-formula r.a l)
-      (λ l. effect-within-ranged d r.a (omega arith)) (λ l. effect-within-ranged d r.b (omega arith))
+      (finite_effect_within d t.formulas t.effects r.b) (rules.effect i b) (λ l. ranged_formula r.a l)
+      (λ l. effect_within_ranged d r.a (omega arith)) (λ l. effect_within_ranged d r.b (omega arith))
 
-  pub ranged-effect :
+  pub ranged_effect :
       (i : ℕ) → i < length t.effects → RangedEffect t.counts (finite_effect_of t.formulas t.effects i)
   unfolding finite_effect_of
-  ranged-effect i b = effect-within-ranged (suc i) i b
+  ranged_effect i b = effect_within_ranged (suc i) i b
 
   -- of operator o
-  pub ranged-operator :
+  pub ranged_operator :
       (o : ℕ) → o < length t.operators → RangedEffect t.counts (finite_effect_of_operator t o)
   unfolding finite_effect_of_operator finite_operator_of
-  ranged-operator o h = ranged-effect (finite_operator_of t o).effect (rules.operator o h).changes
+  ranged_operator o h = ranged_effect (finite_operator_of t o).effect (rules.operator o h).changes
 
-  pub ranged-precondition :
+  pub ranged_precondition :
       (o : ℕ)
       → o < length t.operators
       → Ranged t.counts (finite_formula_of t.formulas (finite_operator_of t o).precondition)
   unfolding finite_operator_of
-  ranged-precondition o h = ranged-formula (finite_operator_of t o).precondition (rules.operator o h).formula
+  ranged_precondition o h = ranged_formula (finite_operator_of t o).precondition (rules.operator o h).formula

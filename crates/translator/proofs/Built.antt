@@ -6,17 +6,17 @@ use mathlib.Core.List.{List}
 use lib.ListN.{length, get_or}
 use Rattle.task.specs.Words.{words_of}
 use Rattle.finite_domain.specs.Table.{FiniteLent, FiniteTask, finite_task_of}
-use Rattle.finite_domain.proofs.Held.{finite-length-counts}
+use Rattle.finite_domain.proofs.Held.{finite_length_counts}
 use Rattle.translation.specs.Flags.{first_flag}
 use Rattle.flag_tables.specs.Inner.Front.{at_front}
 use Rattle.flag_tables.specs.Inner.Flags.{rows_over, LeavesReady}
 use Rattle.flag_tables.proofs.FirstFound.{first_flag_lent}
-use Rattle.flag_tables.proofs.Asked.{formulas-asked, effect-leaves-asked, formulas_left, effects_left}
+use Rattle.flag_tables.proofs.Asked.{formulas_asked, effect_leaves_asked, formulas_left, effects_left}
 use Rattle.operator_guards.specs.Inner.Whole.{Zeros, Sourced, BuildsGuards, BuiltGuards}
 use Rattle.translator.specs.declared.Sizes.{Sizes}
 use Rattle.translator.specs.Inner.Fills.{Counted, counted, lent_of, source_of, Source}
 use Rattle.translator.specs.Inner.Parts.{Builds, BuiltAll}
-use Rattle.translator.proofs.Outcome.{long, rules, flags-are}
+use Rattle.translator.proofs.Outcome.{long, rules, flags_are}
 
 module _ (g : Counted) (s : Source g) where
   abbrev l : FiniteLent
@@ -34,13 +34,13 @@ module _ (g : Counted) (s : Source g) where
   sourced own-formulas own-effects before before2 f e fs es =
       let kept = rules l s.passes in
       let there = long l s.passes in
-      let wide = finite-length-counts l there in
+      let wide = finite_length_counts l there in
       record {
         rules = kept;
         no_twins = s.untwinned;
         copied = s.copied;
-        flags = s.flags ∙ sym (flags-are l s.passes);
-        few_flags = omega (arith, s.flags, flags-are l s.passes, s.flags_limit);
+        flags = s.flags ∙ sym (flags_are l s.passes);
+        few_flags = omega (arith, s.flags, flags_are l s.passes, s.flags_limit);
         formula_words = fs;
         formula_rows = formulas_left l kept there g.firsts s.told s.words before own-formulas f;
         effect_words = es;
@@ -61,14 +61,14 @@ module _ {n : Sizes} {formulas effects operators firsts own-formulas own-effects
   abbrev h : Counted
   h = counted n b.ranges b.initial formulas effects operators firsts
 
-  pub formulas-over-asked : LeavesReady formulas n.counts.frame.formulas 8 firsts own-formulas
-  formulas-over-asked =
-      formulas-asked (lent_of h) (rules (lent_of h) b.source.passes) (long (lent_of h) b.source.passes) firsts b.source.told
+  pub formulas_over_asked : LeavesReady formulas n.counts.frame.formulas 8 firsts own-formulas
+  formulas_over_asked =
+      formulas_asked (lent_of h) (rules (lent_of h) b.source.passes) (long (lent_of h) b.source.passes) firsts b.source.told
       b.source.words own-formulas b.formulas_space
 
-  pub effects-over-asked : LeavesReady effects n.counts.frame.effects 5 firsts own-effects
-  effects-over-asked =
-      effect-leaves-asked (lent_of h) (rules (lent_of h) b.source.passes) (long (lent_of h) b.source.passes) firsts b.source.told
+  pub effects_over_asked : LeavesReady effects n.counts.frame.effects 5 firsts own-effects
+  effects_over_asked =
+      effect_leaves_asked (lent_of h) (rules (lent_of h) b.source.passes) (long (lent_of h) b.source.passes) firsts b.source.told
       b.source.words own-effects b.effects_space
 
   -- with the rows over flags
@@ -86,8 +86,8 @@ module _ {n : Sizes} {formulas effects operators firsts own-formulas own-effects
         sourced (counted n ranges initial formulas effects operators firsts) s own-formulas2 own-effects2 own-formulas own-effects f e
         (omega (arith, fs, b.formulas_space)) (omega (arith, es, b.effects_space))
 
-    pub guards-asked : (originals : List ℕ) → Zeros originals → BuildsGuards n.counts own-formulas2 own-effects2 operators firsts notes built originals scratch preconditions
-    guards-asked originals zero =
+    pub guards_asked : (originals : List ℕ) → Zeros originals → BuildsGuards n.counts own-formulas2 own-effects2 operators firsts notes built originals scratch preconditions
+    guards_asked originals zero =
         record {
           task = source_of h;
           sourced = hand b.ranges b.initial b.source;
@@ -100,8 +100,8 @@ module _ {n : Sizes} {formulas effects operators firsts own-formulas own-effects
           space = b.preconditions_space;
         }
 
-    pub all-built :
+    pub all_built :
         {built2 scratch2 preconditions2 : List ℕ} {r : ℕ}
         → ((t : FiniteTask) → Sourced t n.counts own-formulas2 own-effects2 operators firsts → BuiltGuards t n.counts built2 scratch2 preconditions2 r)
         → BuiltAll n formulas effects operators firsts built2 scratch2 preconditions2 r
-    all-built k ranges initial s = k (source_of (counted n ranges initial formulas effects operators firsts)) (hand ranges initial s)
+    all_built k ranges initial s = k (source_of (counted n ranges initial formulas effects operators firsts)) (hand ranges initial s)

@@ -9,10 +9,10 @@ use lib.Seq.{get_or-take}
 use Rattle.task.specs.Bounded.{upto}
 use Rattle.task.specs.Table.{Row, Operator, row_at}
 use Rattle.task.specs.Words.{words_of, operator_words, head_of, padded}
-use Rattle.task.proofs.Bounded.{length-upto}
+use Rattle.task.proofs.Bounded.{length_upto}
 use Rattle.normal_form.proofs.Padded.{padded_over}
 use Rattle.finite_domain.specs.Table.{FiniteLent, FiniteTask, finite_task_of}
-use Rattle.finite_domain.proofs.Held.{finite-length-formulas, finite-goal-held}
+use Rattle.finite_domain.proofs.Held.{finite_length_formulas, finite_goal_held}
 use Rattle.translation.specs.Flags.{flags_of}
 use Rattle.translation.specs.Translated.{guarded, formulas_at, effects_of, translated}
 use Rattle.translation.specs.Effects.{effects_by}
@@ -22,15 +22,15 @@ use Rattle.flag_tables.specs.Inner.Flags.{ValuesReady}
 use Rattle.flag_tables.specs.Inner.Operators.{operators_over, OperatorsReady}
 use Rattle.flag_tables.specs.Inner.Effects.{EffectsReady, AllWritten, EffectsWritten}
 use Rattle.flag_tables.proofs.EffectTable.{places_read}
-use Rattle.flag_tables.proofs.Asked.{values-asked, effects-asked, effects-told, operators-asked, operators_left}
-use Rattle.compile_parts.proofs.Copied.{copied-rows}
+use Rattle.flag_tables.proofs.Asked.{values_asked, effects_asked, effects_told, operators_asked, operators_left}
+use Rattle.compile_parts.proofs.Copied.{copied_rows}
 use Rattle.operator_guards.specs.Inner.Whole.{Built}
 use Rattle.translator.specs.declared.Filled.{Filled}
 use Rattle.translator.specs.declared.Sizes.{Sizes}
 use Rattle.translator.specs.Left.{Tables, tables, room_of}
 use Rattle.translator.specs.Inner.Fills.{Counted, counted, lent_of, source_of, Source, Spaced, head_after, Holds}
 use Rattle.translator.specs.Inner.Parts.{StandsBuilt, nothing_filled, Ends}
-use Rattle.translator.proofs.Outcome.{long, rules, flags-many, operators-many, it-fits}
+use Rattle.translator.proofs.Outcome.{long, rules, flags_many, operators_many, it_fits}
 
 -- words at the front of a table that is all 0
 front_padded : (words table : List ℕ) → table ≡ replicate (length table) 0 → at_front words table ≡ padded (length table) words
@@ -66,9 +66,9 @@ module _ (g : Counted) (s : Source g) (x : Tables) (spaced : Spaced g x) (precon
   t = source_of g
 
   -- with no room to build
-  pub nothing-built : {y : Tables} {r : Filled} → rows ≡ 0 → r ≡ nothing_filled → Ends g x y r
+  pub nothing_built : {y : Tables} {r : Filled} → rows ≡ 0 → r ≡ nothing_filled → Ends g x y r
   unfolding translated guarded
-  nothing-built q e =
+  nothing_built q e =
       record {
         done = λ p. absurd (true≢false (sym (ap (λ (n : Filled). n.full) e) ∙ p));
         over = λ p few more. omega (arith, stood.over q);
@@ -83,29 +83,29 @@ module _ (g : Counted) (s : Source g) (x : Tables) (spaced : Spaced g x) (precon
     unfolding formulas_at guarded
     row_told a h = b.formulas_at a h
 
-    goal-below : g.size.goal < g.size.counts.frame.formulas
-    goal-below =
-        omega (arith, (rules l s.passes).goal_is_formula, finite-length-formulas l, finite-goal-held l)
+    goal_below : g.size.goal < g.size.counts.frame.formulas
+    goal_below =
+        omega (arith, (rules l s.passes).goal_is_formula, finite_length_formulas l, finite_goal_held l)
 
-    pub goal-there : g.size.goal < length x.scratch
-    goal-there = omega (arith, goal-below, spaced.memo)
+    pub goal_there : g.size.goal < length x.scratch
+    goal_there = omega (arith, goal_below, spaced.memo)
 
-    pub goal-some : 1 ≤ get_or x.scratch g.size.goal 0
-    goal-some = omega (arith, row_told g.size.goal goal-below)
+    pub goal_some : 1 ≤ get_or x.scratch g.size.goal 0
+    goal_some = omega (arith, row_told g.size.goal goal_below)
 
     pub rows_small : rows ≤ 4096
     rows_small = omega (arith, b.within, spaced.rows_limit)
 
-    pub rows-there : 3 * rows ≤ length built
-    rows-there = omega (arith, b.within, built_space)
+    pub rows_there : 3 * rows ≤ length built
+    rows_there = omega (arith, b.within, built_space)
 
     pub rows_space : 3 * rows ≤ length x.formulas
     rows_space = omega (arith, b.within, spaced.rows_space)
 
-    pub effects-ready :
+    pub effects_ready :
         EffectsReady g.effects g.size.counts.frame.effects g.counts g.firsts x.scratch built x.effects g.size.room
-    effects-ready =
-        effects-asked l (rules l s.passes) (long l s.passes) g.firsts s.told s.words x.scratch built x.effects
+    effects_ready =
+        effects_asked l (rules l s.passes) (long l s.passes) g.firsts s.told s.words x.scratch built x.effects
         g.size.room (omega (arith, spaced.memo)) (λ a h. omega (arith, row_told a h)) places_space spaced.effects_space spaced.effects_limit
 
     -- Behind the effects.
@@ -117,34 +117,34 @@ module _ (g : Counted) (s : Source g) (x : Tables) (spaced : Spaced g x) (precon
           built places x.effects out r
       by-lent =
           w (take l.head.variables g.counts) (formulas_at (source_of g))
-          (effects-told l (rules l s.passes) (long l s.passes) g.firsts s.told s.words x.scratch (formulas_at (source_of g)) row_told)
+          (effects_told l (rules l s.passes) (long l s.passes) g.firsts s.told s.words x.scratch (formulas_at (source_of g)) row_told)
 
-      all-written : AllWritten (effects_of (source_of g)) g.size.room built places x.effects out r
+      all_written : AllWritten (effects_of (source_of g)) g.size.room built places x.effects out r
       unfolding effects_of source_of finite_task_of
-      all-written = by-lent
+      all_written = by-lent
 
-      pub effects-over : {y : Tables} {z : Filled} → r.full ≡ true → z ≡ nothing_filled → Ends g x y z
+      pub effects_over : {y : Tables} {z : Filled} → r.full ≡ true → z ≡ nothing_filled → Ends g x y z
       unfolding translated
-      effects-over p e =
+      effects_over p e =
           record {
             done = λ n. absurd (true≢false (sym (ap (λ (m : Filled). m.full) e) ∙ n));
-            over = λ _ few more. all-written.over p more;
+            over = λ _ few more. all_written.over p more;
           }
 
       pub operators-ready : OperatorsReady g.operators g.size.counts.operators preconditions places x.operators
       operators-ready =
-          operators-asked l (rules l s.passes) (long l s.passes) preconditions places x.operators preconditions_space placed
+          operators_asked l (rules l s.passes) (long l s.passes) preconditions places x.operators preconditions_space placed
           spaced.operators_space
         where
           placed : g.size.counts.frame.effects ≤ length places
           placed = omega (arith, long-places, places_space)
 
       pub values-ready : ValuesReady g.counts g.initial g.size.counts.variables x.initial
-      values-ready = values-asked l (rules l s.passes) (long l s.passes) x.initial (omega (arith, s.flags, spaced.initial_space))
+      values-ready = values_asked l (rules l s.passes) (long l s.passes) x.initial (omega (arith, s.flags, spaced.initial_space))
 
       module _ (unfilled : r.full ≡ false) where
         pub effects-small : r.rows ≤ 4096
-        effects-small = omega (arith, all-written.within unfilled, spaced.effects_limit)
+        effects-small = omega (arith, all_written.within unfilled, spaced.effects_limit)
 
         precondition-kept :
             (o : ℕ) → o < g.size.counts.operators → get_or preconditions o 0 ≡ get_or (guarded (source_of g)).value.preconditions o 0
@@ -157,36 +157,36 @@ module _ (g : Counted) (s : Source g) (x : Tables) (spaced : Spaced g x) (precon
         place_kept e h =
             places_read (take l.head.variables g.counts) (formulas_at (source_of g)) g.effects l.head.effects by-lent unfilled e h
 
-        operators-are :
+        operators_are :
             operators_over g.operators preconditions places g.size.counts.operators ≡ (translated (source_of g)).operators
         unfolding source_of
-        operators-are = operators_left l (rules l s.passes) (long l s.passes) preconditions places precondition-kept place_kept
+        operators_are = operators_left l (rules l s.passes) (long l s.passes) preconditions places precondition-kept place_kept
 
         rows_are : upto rows (row_at built) ≡ (translated (source_of g)).formulas
         unfolding translated guarded
         rows_are = b.rows
 
         rows-many : length (translated (source_of g)).formulas ≡ rows
-        rows-many = ap length (sym rows_are) ∙ length-upto rows (row_at built)
+        rows-many = ap length (sym rows_are) ∙ length_upto rows (row_at built)
 
         effects-many : length (translated (source_of g)).effects ≡ r.rows
         unfolding translated
-        effects-many = all-written.rows unfilled
+        effects-many = all_written.rows unfilled
 
-        flags-here : length (translated (source_of g)).initial ≡ g.size.counts.frame.variables
+        flags_here : length (translated (source_of g)).initial ≡ g.size.counts.frame.variables
         unfolding source_of
-        flags-here = flags-many l s.passes ∙ sym s.flags
+        flags_here = flags_many l s.passes ∙ sym s.flags
 
         operators-here : length (translated (source_of g)).operators ≡ g.size.counts.operators
         unfolding source_of
-        operators-here = operators-many l s.passes
+        operators-here = operators_many l s.passes
 
-        goal-is : (translated (source_of g)).goal ≡ get_or x.scratch g.size.goal 0 - 1
+        goal_is : (translated (source_of g)).goal ≡ get_or x.scratch g.size.goal 0 - 1
         unfolding translated
-        goal-is = omega (arith, row_told g.size.goal goal-below, same-goal)
+        goal_is = omega (arith, row_told g.size.goal goal_below, same_goal)
           where
-            same-goal : get_or (formulas_at (source_of g)) (source_of g).goal 0 ≡ get_or (formulas_at (source_of g)) g.size.goal 0
-            same-goal = ap (λ (n : ℕ). get_or (formulas_at (source_of g)) n 0) (unfold source_of in finite-goal-held l)
+            same_goal : get_or (formulas_at (source_of g)) (source_of g).goal 0 ≡ get_or (formulas_at (source_of g)) g.size.goal 0
+            same_goal = ap (λ (n : ℕ). get_or (formulas_at (source_of g)) n 0) (unfold source_of in finite_goal_held l)
 
         -- Behind all.
         module _ {values table written : List ℕ} {z : Filled}
@@ -204,12 +204,12 @@ module _ (g : Counted) (s : Source g) (x : Tables) (spaced : Spaced g x) (precon
           unfolding head_of
           heads = λ i.
               record {
-                variables = flags-here i;
+                variables = flags_here i;
                 twins = no_twins i;
                 formulas = rows-many i;
                 effects = effects-many i;
                 operators = operators-here i;
-                goal = goal-is i;
+                goal = goal_is i;
               }
             where
               no_twins : length (translated (source_of g)).originals ≡ 0
@@ -224,26 +224,26 @@ module _ (g : Counted) (s : Source g) (x : Tables) (spaced : Spaced g x) (precon
               record {
                 fits =
                     unfold source_of in
-                    it-fits l s.passes (room_of x) (omega (arith, s.flags, s.flags_limit)) (omega (arith, s.flags, spaced.initial_space))
+                    it_fits l s.passes (room_of x) (omega (arith, s.flags, s.flags_limit)) (omega (arith, s.flags, spaced.initial_space))
                     (omega (arith, rows-many, rows_small)) (omega (arith, rows-many, rows_space))
                     (omega (arith, effects-many, effects-small))
-                    (omega (arith, effects-many, all-written.within unfilled, spaced.effects_space)) spaced.operators_space;
+                    (omega (arith, effects-many, all_written.within unfilled, spaced.effects_space)) spaced.operators_space;
                 head = heads ∙ ap (head_after g.size.counts.frame.variables g.size.counts.operators) (sym answer);
                 initial = flags-written ∙ flags-are-written ∙ front_padded (translated (source_of g)).initial x.initial blank_initial;
                 formulas =
                     rows-copied
-                    ∙ copied-rows built x.formulas rows rows-there rows_space blank_formulas
+                    ∙ copied_rows built x.formulas rows rows_there rows_space blank_formulas
                     ∙ ap (λ (k : List Row). padded (length x.formulas) (words_of k)) rows_are;
                 effects = effects-words;
                 operators =
                     operators-written
                     ∙ front_padded (operator_words (operators_over g.operators preconditions places g.size.counts.operators)) x.operators blank_operators
-                    ∙ ap (λ (k : List Operator). padded (length x.operators) (operator_words k)) operators-are;
+                    ∙ ap (λ (k : List Operator). padded (length x.operators) (operator_words k)) operators_are;
               }
             where
               effects-words : out ≡ padded (length x.effects) (words_of (translated (source_of g)).effects)
               effects-words =
-                  unfold translated in (all-written.words unfilled ∙ front_padded (words_of (effects_of (source_of g)).rows) x.effects blank_effects)
+                  unfold translated in (all_written.words unfilled ∙ front_padded (words_of (effects_of (source_of g)).rows) x.effects blank_effects)
 
           pub all_done : Ends g x (tables values table out written x.scratch) z
           all_done =

@@ -7,7 +7,7 @@ use mathlib.Core.Bool.{true, false, true≢false}
 use mathlib.Core.List.{List}
 use lib.ListN.{length, replicate, length-replicate}
 use Rattle.normal_form.specs.Compiled.{Fits}
-use Rattle.finite_domain.proofs.Held.{finite-length-formulas, finite-length-effects, finite-length-operators}
+use Rattle.finite_domain.proofs.Held.{finite_length_formulas, finite_length_effects, finite_length_operators}
 use Rattle.translation.specs.Translated.{translated}
 use Rattle.formula_builder.specs.declared.Frame.{Frame}
 use Rattle.atom_sets.specs.Inner.Sets.{sets_end, set_words}
@@ -33,16 +33,16 @@ sets_room frame s e h g =
 
 module _ (g : Counted) (x : Tables) (b : Begins g x) where
   few_formulas : g.size.counts.frame.formulas ≤ 4096
-  few_formulas = omega (arith, finite-length-formulas (lent_of g), (rules (lent_of g) b.source.passes).limits.formulas)
+  few_formulas = omega (arith, finite_length_formulas (lent_of g), (rules (lent_of g) b.source.passes).limits.formulas)
 
   pub few_effects : g.size.counts.frame.effects ≤ 4096
-  few_effects = omega (arith, finite-length-effects (lent_of g), (rules (lent_of g) b.source.passes).limits.effects)
+  few_effects = omega (arith, finite_length_effects (lent_of g), (rules (lent_of g) b.source.passes).limits.effects)
 
-  few-operators : g.size.counts.operators ≤ 256
-  few-operators = omega (arith, finite-length-operators (lent_of g), (rules (lent_of g) b.source.passes).limits.operators)
+  few_operators : g.size.counts.operators ≤ 256
+  few_operators = omega (arith, finite_length_operators (lent_of g), (rules (lent_of g) b.source.passes).limits.operators)
 
   -- what building asks
-  build-asks :
+  build_asks :
       (flagged changes notes built : ℕ)
       → 3 * g.size.counts.frame.formulas ≤ flagged
       → 3 * g.size.counts.frame.effects ≤ changes
@@ -50,7 +50,7 @@ module _ (g : Counted) (x : Tables) (b : Begins g x) where
       → 9 * g.size.counts.frame.rows + g.size.counts.frame.variables ≤ built
       → Builds g.size g.formulas g.effects g.operators g.firsts (replicate flagged 0) (replicate changes 0) (replicate notes 0) (replicate built 0)
       x.scratch (replicate 256 0)
-  build-asks flagged changes notes built f e n r =
+  build_asks flagged changes notes built f e n r =
       record {
         ranges = g.counts;
         initial = g.initial;
@@ -67,33 +67,33 @@ module _ (g : Counted) (x : Tables) (b : Begins g x) where
             };
         scratch_space = b.spaced.memo;
         blank_scratch = zeros x.scratch b.blank.scratch;
-        preconditions_space = omega (arith, length-replicate {A = ℕ} 256 0, few-operators);
+        preconditions_space = omega (arith, length-replicate {A = ℕ} 256 0, few_operators);
       }
 
-  pub owns-large :
+  pub owns_large :
       Builds g.size g.formulas g.effects g.operators g.firsts (replicate 12288 0) (replicate 12288 0) (replicate 610304 0) (replicate 37376 0)
       x.scratch (replicate 256 0)
-  owns-large =
+  owns_large =
       let room = sets_room g.size.counts.frame 64 4096 (omega (arith, b.source.flags_limit)) few_effects in
-      build-asks 12288 12288 610304 37376 (omega (arith, few_formulas)) (omega (arith, few_effects)) (omega (arith, room))
+      build_asks 12288 12288 610304 37376 (omega (arith, few_formulas)) (omega (arith, few_effects)) (omega (arith, room))
       (omega (arith, b.spaced.rows_limit, b.source.flags_limit))
 
-  pub owns-least :
+  pub owns_least :
       BeginsWithin 128 64 32 g x
       → Builds g.size g.formulas g.effects g.operators g.firsts (replicate 192 0) (replicate 192 0) (replicate 512 0) (replicate 1184 0)
       x.scratch (replicate 256 0)
-  owns-least s =
+  owns_least s =
       let room = sets_room g.size.counts.frame 4 64 (omega (arith, s.few_flags)) s.few_effects in
-      build-asks 192 192 512 1184 (omega (arith, s.few_formulas)) (omega (arith, s.few_effects)) (omega (arith, room))
+      build_asks 192 192 512 1184 (omega (arith, s.few_formulas)) (omega (arith, s.few_effects)) (omega (arith, room))
       (omega (arith, s.few_rows, s.few_flags))
 
-  pub owns-small :
+  pub owns_small :
       BeginsWithin 512 512 128 g x
       → Builds g.size g.formulas g.effects g.operators g.firsts (replicate 1536 0) (replicate 1536 0) (replicate 14336 0) (replicate 4736 0)
       x.scratch (replicate 256 0)
-  owns-small s =
+  owns_small s =
       let room = sets_room g.size.counts.frame 16 512 (omega (arith, s.few_flags)) s.few_effects in
-      build-asks 1536 1536 14336 4736 (omega (arith, s.few_formulas)) (omega (arith, s.few_effects)) (omega (arith, room))
+      build_asks 1536 1536 14336 4736 (omega (arith, s.few_formulas)) (omega (arith, s.few_effects)) (omega (arith, room))
       (omega (arith, s.few_rows, s.few_flags))
 
   -- what finishing asks, with scratch as it was left
@@ -102,8 +102,8 @@ module _ (g : Counted) (x : Tables) (b : Begins g x) where
     abbrev mid : Tables
     mid = tables x.initial x.formulas x.effects x.operators scratch
 
-    mid-spaced : Spaced g mid
-    mid-spaced =
+    mid_spaced : Spaced g mid
+    mid_spaced =
         record {
           memo = omega (arith, long-scratch, b.spaced.memo);
           initial_space = b.spaced.initial_space;
@@ -114,22 +114,22 @@ module _ (g : Counted) (x : Tables) (b : Begins g x) where
           operators_space = b.spaced.operators_space;
         }
 
-    pub finish-asks :
+    pub finish_asks :
         (n : ℕ)
         → 3 * g.size.counts.frame.rows ≤ n
         → g.size.counts.frame.effects ≤ n
         → length built ≡ length (replicate {A = ℕ} n 0)
         → length preconditions ≡ length (replicate {A = ℕ} 256 0)
         → Finishes g.size rows g.counts g.initial g.effects g.operators g.firsts preconditions built mid
-    finish-asks n h e long-built long-preconditions =
+    finish_asks n h e long-built long-preconditions =
         record {
           formulas = g.formulas;
           source = b.source;
           stood = stood;
-          spaced = mid-spaced;
+          spaced = mid_spaced;
           built_space = omega (arith, long-built, length-replicate {A = ℕ} n 0);
           places_space = omega (arith, long-built, length-replicate {A = ℕ} n 0);
-          preconditions_space = omega (arith, long-preconditions, length-replicate {A = ℕ} 256 0, few-operators);
+          preconditions_space = omega (arith, long-preconditions, length-replicate {A = ℕ} 256 0, few_operators);
           blank_initial = b.blank.initial;
           blank_formulas = b.blank.formulas;
           blank_effects = b.blank.effects;
@@ -148,12 +148,12 @@ module _ (g : Counted) (x : Tables) (b : Begins g x) where
           operators = h.operators;
         }
 
-    pub tried-done :
+    pub tried_done :
         {y : Tables} {r : Filled}
         → Ends g mid y r
         → r.full ≡ false
         → Tries g x y r
-    tried-done e q = record { done = λ p. held (e.done p); over = λ p. absurd (true≢false (sym p ∙ q)) }
+    tried_done e q = record { done = λ p. held (e.done p); over = λ p. absurd (true≢false (sym p ∙ q)) }
 
     pub misfits :
         {y : Tables} {r : Filled}
@@ -166,8 +166,8 @@ module _ (g : Counted) (x : Tables) (b : Begins g x) where
         e.over q (room.rows_allowed _ fit.limits.formulas fit.tables.formulas)
         (room.effects_allowed _ fit.limits.effects fit.tables.effects)
 
-  pub tried-over : {y w : Tables} {z : Filled} → room_of y ≡ room_of x → Blanked y w → z ≡ nothing_filled → Tries g x w z
-  tried-over same c e =
+  pub tried_over : {y w : Tables} {z : Filled} → room_of y ≡ room_of x → Blanked y w → z ≡ nothing_filled → Tries g x w z
+  tried_over same c e =
       record {
         done = λ q. absurd (true≢false (sym (ap (λ (r : Filled). r.full) e) ∙ q));
         over = λ _. cleared_again b.blank same c;

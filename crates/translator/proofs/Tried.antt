@@ -63,23 +63,23 @@ module _ {most : ℕ} {n r : Sizes} {ranges initial formulas effects operators f
         few_flags = flags;
       }
 
-  pub small-asks :
+  pub small_asks :
       {source flags : ℕ} {m : Bool}
       → Small source flags n m
       → m ≡ true
       → Roomy (counted n ranges initial formulas effects operators firsts) x
       → BeginsWithin most source flags (counted r ranges initial formulas effects operators firsts) x
-  small-asks s q b =
+  small_asks s q b =
       rw k.same
       (small_by r.counts.frame.rows k.few k.less (s.few_formulas q) (s.few_effects q) (s.few_flags q) b.begins)
 
   module _ {y : Tables} {z : Filled} (t : Tries (counted r ranges initial formulas effects operators firsts) x y z) where
-    same-held :
+    same_held :
         (rows : ℕ)
         → Holds (counted (with_rows n rows) ranges initial formulas effects operators firsts) x y z
         → Holds (counted n ranges initial formulas effects operators firsts) x y z
     unfolding source_of
-    same-held rows h =
+    same_held rows h =
         record {
           fits = h.fits;
           head = h.head;
@@ -90,7 +90,7 @@ module _ {most : ℕ} {n r : Sizes} {ranges initial formulas effects operators f
         }
 
     held : z.full ≡ false → Holds (counted n ranges initial formulas effects operators firsts) x y z
-    held q = same-held r.counts.frame.rows (rw k.same at (t.done q))
+    held q = same_held r.counts.frame.rows (rw k.same at (t.done q))
 
     -- a try that has room is the answer
     pub tried : z.full ≡ false → Fills (counted n ranges initial formulas effects operators firsts) x y z

@@ -9,7 +9,7 @@ use Rattle.task.specs.declared.Head.{Head}
 use Rattle.normal_form.specs.Compiled.{nothing_given, task_given, not_compiled, compiled_head}
 use Rattle.finite_domain.specs.Table.{FiniteLent, FiniteTask, finite_task_of}
 use Rattle.finite_domain.specs.Check.{finite_refusal}
-use Rattle.finite_domain.proofs.Held.{finite-length-counts}
+use Rattle.finite_domain.proofs.Held.{finite_length_counts}
 use Rattle.task.specs.Words.{padded}
 use Rattle.translation.specs.Flags.{first_flag}
 use Rattle.translation.specs.Translated.{translated}
@@ -22,7 +22,7 @@ use Rattle.translator.specs.Left.{Tables, tables, room_of, translate_left}
 use Rattle.translator.specs.Inner.Sizes.{Least, sizes_by, SizesOf}
 use Rattle.translator.specs.Inner.Numbers.{Passed}
 use Rattle.translator.specs.Inner.Fills.{Blanked, Counted, counted, lent_of, source_of, Roomy, head_after, Fills}
-use Rattle.translator.proofs.Outcome.{by-room, succeeds, long, rules}
+use Rattle.translator.proofs.Outcome.{by_room, succeeds, long, rules}
 use Rattle.translator.proofs.Cleared.{same_room}
 
 -- the lengths of lent tables
@@ -66,7 +66,7 @@ refuses_first l n e b = refuses l n (rw (same_room b) at e) b
 -- few variables: the word behind their first flags is there
 pub variables_few : (l : FiniteLent) → finite_refusal l ≡ 0 → l.head.variables ≤ 64
 variables_few l passes =
-    omega (arith, finite-length-counts l (long l passes), (rules l passes).limits.variables)
+    omega (arith, finite_length_counts l (long l passes), (rules l passes).limits.variables)
 
 -- no table is lent for twins, and there are none
 no_twins : (t : FiniteTask) → [] ≡ padded 0 (translated t).originals
@@ -82,12 +82,12 @@ module _ (l : FiniteLent) (x : Tables) {firsts : List ℕ} (p : Passed l (room_o
     abbrev g : (rows room : ℕ) → Counted
     g rows room = counted (sizes_by l.head (get_or firsts l.head.variables 0) rows room) l.counts l.initial l.formulas l.effects l.operators firsts
 
-    flags-here : get_or firsts l.head.variables 0 ≡ first_flag l.counts l.head.variables
-    flags-here = p.told.at l.head.variables (omega arith)
+    flags_here : get_or firsts l.head.variables 0 ≡ first_flag l.counts l.head.variables
+    flags_here = p.told.at l.head.variables (omega arith)
 
     -- what is counted is what was lent: W is 0
-    same-lent : (rows room : ℕ) → lent_of (g rows room) ≡ l
-    same-lent rows room = λ i.
+    same_lent : (rows room : ℕ) → lent_of (g rows room) ≡ l
+    same_lent rows room = λ i.
         record {
           head =
               record {
@@ -105,31 +105,31 @@ module _ (l : FiniteLent) (x : Tables) {firsts : List ℕ} (p : Passed l (room_o
           operators = l.operators;
         }
 
-    roomy-by :
+    roomy_by :
         (rows room : ℕ)
         → Least 4096 (length x.formulas / 3) rows
         → Least 4096 (length x.effects / 3) room
         → l.head.variables < length firsts
         → Blanked x x
         → Roomy (g rows room) x
-    roomy-by rows room r f words blank =
+    roomy_by rows room r f words blank =
         record {
           begins =
               record {
                 source =
                     record {
-                      passes = ap finite_refusal (same-lent rows room) ∙ p.passes;
+                      passes = ap finite_refusal (same_lent rows room) ∙ p.passes;
                       copied = refl;
                       untwinned = refl;
                       told = p.told;
                       words = words;
-                      flags = flags-here;
-                      flags_limit = omega (arith, flags-here, p.flags);
+                      flags = flags_here;
+                      flags_limit = omega (arith, flags_here, p.flags);
                     };
                 spaced =
                     record {
                       memo = p.memo;
-                      initial_space = omega (arith, flags-here, p.initial);
+                      initial_space = omega (arith, flags_here, p.initial);
                       rows_limit = r.first;
                       rows_space = omega (arith, r.second);
                       effects_limit = f.first;
@@ -143,10 +143,10 @@ module _ (l : FiniteLent) (x : Tables) {firsts : List ℕ} (p : Passed l (room_o
         }
 
     pub roomy : length firsts ≡ 65 → Blanked x x → Roomy (counted c l.counts l.initial l.formulas l.effects l.operators firsts) x
-    roomy words blank = rw k.same (roomy-by c.counts.frame.rows c.room k.rows k.room (omega (arith, head_few)) blank)
+    roomy words blank = rw k.same (roomy_by c.counts.frame.rows c.room k.rows k.room (omega (arith, head_few)) blank)
 
-    pub flags-fit : c.counts.frame.variables ≤ 512
-    flags-fit = omega (arith, ap (λ (n : Sizes). n.counts.frame.variables) k.same, flags-here, p.flags)
+    pub flags_fit : c.counts.frame.variables ≤ 512
+    flags_fit = omega (arith, ap (λ (n : Sizes). n.counts.frame.variables) k.same, flags_here, p.flags)
 
     module _ {y : Tables} {r : Filled} (f : Fills (counted c l.counts l.initial l.formulas l.effects l.operators firsts) x y r) where
       abbrev fills_it : Fills (g c.counts.frame.rows c.room) x y r
@@ -154,13 +154,13 @@ module _ (l : FiniteLent) (x : Tables) {firsts : List ℕ} (p : Passed l (room_o
 
       same_task : translated (source_of (g c.counts.frame.rows c.room)) ≡ translated (finite_task_of l)
       unfolding source_of
-      same_task = ap (λ (m : FiniteLent). translated (finite_task_of m)) (same-lent c.counts.frame.rows c.room)
+      same_task = ap (λ (m : FiniteLent). translated (finite_task_of m)) (same_lent c.counts.frame.rows c.room)
 
       pub filled-over : Blanked x x → r.full ≡ true → translate_left (Refused 15) y ≡ translating l (room_of x)
       filled-over b q =
           let again : Blanked x y = rw (fills_it.tries.over q) b in
           refuses l 15
-          (by-room l (room_of x) p.passes p.memo (λ fit. fills_it.misfit q (rw same_task fit)))
+          (by_room l (room_of x) p.passes p.memo (λ fit. fills_it.misfit q (rw same_task fit)))
           again
 
       pub filled-done :

@@ -11,7 +11,7 @@ use Rattle.normal_form.specs.Growth.{Steady}
 use Rattle.normal_form.specs.Conditions.{Becoming, condition}
 use Rattle.normal_form.specs.Operators.{Changes, deletes_of, changes_of}
 use Rattle.normal_form.proofs.Growth.{steady_give, steady_bind, steady_join}
-use Rattle.normal_form.proofs.Steady.{steady-deletes, steady-condition}
+use Rattle.normal_form.proofs.Steady.{steady_deletes, steady_condition}
 use Rattle.task.specs.Semantics.{Formula, Effect, sets, clears}
 use Rattle.formula_builder.specs.declared.Frame.{Frame}
 use Rattle.formula_builder.specs.declared.Size.{Size}
@@ -22,7 +22,7 @@ use Rattle.images.specs.Inner.Images.{becoming, Memo, Images}
 use Rattle.images.proofs.Memos.{done_grows}
 use Rattle.conditions.specs.declared.Target.{Target}
 use Rattle.conditions.specs.Inner.Conditions.{effect_tree, EffectMemo, Noted, Asks, Conditions}
-use Rattle.conditions.proofs.Memos.{effect_memo_grows, conditions-as, conditions_leaf, conditions_bind, conditions_stop}
+use Rattle.conditions.proofs.Memos.{effect_memo_grows, conditions_as, conditions_leaf, conditions_bind, conditions_stop}
 use Rattle.variable_changes.specs.Inner.Stands.{Stands, StandsAt, Deletes, Leaves, Reaches, Makes}
 
 -- what a condition asks
@@ -117,13 +117,13 @@ makes_image steady memo x =
 
 module _ {A B : Type 0} {m : Build A} {frame : Frame} {formulas effects : List ℕ} {at : Size} {before mid : Store} {s2 : List ℕ} {full : Bool}
     {next : Size} {a : A} (f : A → Build B) (x : Makes m frame formulas effects at before mid s2 full next a) where
-  makes-bind :
+  makes_bind :
       {after : Store} {s3 : List ℕ} {full' : Bool} {last : Size} {b : B}
       → full ≡ false
       → Makes (f a) frame formulas effects next mid after s3 full' last b
       → Makes (bind m f) frame formulas effects at before after s3 full' last b
   unfolding bind
-  makes-bind {after} {s3} {full'} {last} {b} q y =
+  makes_bind {after} {s3} {full'} {last} {b} q y =
       let same : f (m (held at before)).value (m (held at before)).st ≡ f a (held next mid) =
       ap₂ f (x.value q) (x.reaches.done q).state in
       record {
@@ -137,13 +137,13 @@ module _ {A B : Type 0} {m : Build A} {frame : Frame} {formulas effects : List �
         value = λ g. ap (λ (z : Got B). z.value) same ∙ y.value g;
       }
 
-  makes-stop :
+  makes_stop :
       {last : Size} {b : B}
       → ((a : A) → Steady (f a))
       → full ≡ true
       → Makes (bind m f) frame formulas effects at before mid s2 true last b
   unfolding bind
-  makes-stop steady q =
+  makes_stop steady q =
       let g = m (held at before) in
       record {
         reaches =
@@ -194,20 +194,20 @@ module _ {notes : List ℕ} (frame : Frame) (formulas effects : List ℕ) (at : 
   stays :
       deletes_of (becoming frame) tree v a d ≡ give d
       → Conditions (deletes_of (becoming frame) tree v a d) frame formulas effects notes at before before scratch (stepped at.rows at.twins d)
-  stays q = conditions-as q (given_row d s.stands s.row)
+  stays q = conditions_as q (given_row d s.stands s.row)
 
-  pub never-set :
+  pub never_set :
       a ≡ 0
       → Conditions (deletes_of (becoming frame) (effect_tree frame formulas effects e) v a d) frame formulas effects notes at before before scratch (stepped at.rows at.twins d)
   unfolding deletes_of tree
-  never-set h = stays (rw (eq-eqb a 0 h))
+  never_set h = stays (rw (eq-eqb a 0 h))
 
-  pub never-cleared :
+  pub never_cleared :
       (a ≡ 0 → ⊥)
       → d ≡ 0
       → Conditions (deletes_of (becoming frame) (effect_tree frame formulas effects e) v a d) frame formulas effects notes at before before scratch (stepped at.rows at.twins d)
   unfolding deletes_of tree
-  never-cleared g h = stays (rw (ne_eqb a 0 g, eq-eqb d 0 h))
+  never_cleared g h = stays (rw (ne_eqb a 0 g, eq-eqb d 0 h))
 
   module _ (g : a ≡ 0 → ⊥) (h : d ≡ 0 → ⊥) {notes' : List ℕ} {after : Store} {s2 : List ℕ} {n : Step}
       (x : Conditions (condition (becoming frame) negated (sets v) (effect_tree frame formulas effects e)) frame formulas effects notes' at before after s2 n)
@@ -222,7 +222,7 @@ module _ {notes : List ℕ} (frame : Frame) (formulas effects : List ℕ) (at : 
           n.full ≡ true
           → Conditions (deletes_of (becoming frame) (effect_tree frame formulas effects e) v a d) frame formulas effects notes' at before after s2 n
       unfolding tree
-      negated-full q = conditions-as freed (conditions_stop (λ c. join plain d c) (λ c. steady_join plain d c) x q)
+      negated-full q = conditions_as freed (conditions_stop (λ c. join plain d c) (λ c. steady_join plain d c) x q)
 
       pub negated-join-asks : n.full ≡ false → JoinReady frame.rows n.rows after.table d n.row
       negated-join-asks q =
@@ -241,7 +241,7 @@ module _ {notes : List ℕ} (frame : Frame) (formulas effects : List ℕ) (at : 
           → Conditions (deletes_of (becoming frame) (effect_tree frame formulas effects e) v a d) frame formulas effects notes' at before last s2 z
       unfolding tree
       negated-joined q b =
-          conditions-as freed
+          conditions_as freed
           (conditions_bind (λ c. join plain d c) x q
           (conditions_leaf (steady_join plain d n.row) (x.noted q) (x.memo q) (x.effect_memo q) b))
 
@@ -251,16 +251,16 @@ module _ (becomes : Becoming) (steady : (p : Polarity) (f : Formula) → Steady 
   last_of a d =
       bind (deletes_of becomes effect v a d) (λ k. give (record { variable = v; adds = a; deletes = k }))
 
-  steady-last : (a d : ℕ) → Steady (last_of a d)
+  steady_last : (a d : ℕ) → Steady (last_of a d)
   unfolding last_of
-  steady-last a d = steady_bind (steady-deletes becomes steady effect v a d) (λ k. steady_give _)
+  steady_last a d = steady_bind (steady_deletes becomes steady effect v a d) (λ k. steady_give _)
 
-  after-set : ℕ → Build Changes
-  after-set a = bind (condition becomes plain (clears v) effect) (λ d. last_of a d)
+  after_set : ℕ → Build Changes
+  after_set a = bind (condition becomes plain (clears v) effect) (λ d. last_of a d)
 
-  steady-after : (a : ℕ) → Steady (after-set a)
-  unfolding after-set
-  steady-after a = steady_bind (steady-condition becomes steady plain (clears v) effect) (λ d. steady-last a d)
+  steady_after : (a : ℕ) → Steady (after_set a)
+  unfolding after_set
+  steady_after a = steady_bind (steady_condition becomes steady plain (clears v) effect) (λ d. steady_last a d)
 
   module _ {frame : Frame} {formulas effects notes : List ℕ} {at : Size} {before mid : Store} {s2 : List ℕ} {a : Step}
       (x : Conditions (condition becomes plain (sets v) effect) frame formulas effects notes at before mid s2 a) where
@@ -268,26 +268,26 @@ module _ (becomes : Becoming) (steady : (p : Polarity) (f : Formula) → Steady 
         {last : Size} {c : Changes}
         → a.full ≡ true
         → Makes (changes_of becomes effect v) frame formulas effects at before mid s2 true last c
-    unfolding changes_of after-set last_of
-    set_full q = makes-stop after-set (makes_row x) steady-after q
+    unfolding changes_of after_set last_of
+    set_full q = makes_stop after_set (makes_row x) steady_after q
 
     module _ (q : a.full ≡ false) {notes' : List ℕ} {after : Store} {s3 : List ℕ} {d : Step}
         (y : Conditions (condition becomes plain (clears v) effect) frame formulas effects notes' (size_of a) mid after s3 d) where
-      pub clear-full :
+      pub clear_full :
           {last : Size} {c : Changes}
           → d.full ≡ true
           → Makes (changes_of becomes effect v) frame formulas effects at before after s3 true last c
-      unfolding changes_of after-set last_of
-      clear-full g = makes-bind after-set (makes_row x) q (makes-stop (last_of a.row) (makes_row y) (steady-last a.row) g)
+      unfolding changes_of after_set last_of
+      clear_full g = makes_bind after_set (makes_row x) q (makes_stop (last_of a.row) (makes_row y) (steady_last a.row) g)
 
-      pub change-made :
+      pub change_made :
           {notes'' : List ℕ} {last : Store} {s4 : List ℕ} {k : Step}
           → d.full ≡ false
           → Conditions (deletes_of becomes effect v a.row d.row) frame formulas effects notes'' (size_of d) after last s4 k
           → Makes (changes_of becomes effect v) frame formulas effects at before last s4 k.full (size_of k)
           (record { variable = v; adds = a.row; deletes = k.row })
-      unfolding changes_of after-set last_of
-      change-made g z =
-          makes-bind after-set (makes_row x) q
-          (makes-bind (last_of a.row) (makes_row y) g
+      unfolding changes_of after_set last_of
+      change_made g z =
+          makes_bind after_set (makes_row x) q
+          (makes_bind (last_of a.row) (makes_row y) g
           (makes_map {B = Changes} (λ k. record { variable = v; adds = a.row; deletes = k }) (makes_row z)))

@@ -163,8 +163,8 @@ module _ {n : ℕ} {words : List ℕ} {to cost steps step : ℕ} {notes : List �
 
   -- whether the list that stands at a state stays
   pub data Judged : Bool → Type 0 where
-    old-stays : Searching h.t h.stepping.status left_state (h.k + 1) → Judged true
-    new-comes :
+    old_stays : Searching h.t h.stepping.status left_state (h.k + 1) → Judged true
+    new_comes :
         ((r : List ℕ) (e : ℕ) → h.stepping.status new_state ≡ taken r e → ⊥)
         → ((r : List ℕ) (e : ℕ) → h.stepping.status new_state ≡ queued r e → NoLater new_cost new_list e r)
         → queue_cost cost * 4294967296 + steps ≤ key words n to

@@ -6,7 +6,7 @@ use mathlib.Core.Path.{◌≡◌}
 use lib.ListN.{length}
 use native.Mathlib.Omega.{arith}
 use Rattle.task.specs.Table.{row_at}
-use Rattle.applying.proofs.Passes.{acts_not_marked, acts-other-kind, acts-marked, Passing, begin, idle, act}
+use Rattle.applying.proofs.Passes.{acts_not_marked, acts_other_kind, acts_marked, Passing, begin, idle, act}
 
 abbrev invariant-loop : tie.invariant-loop
 invariant-loop effects rows kind value state₀ scratch at next₀ state next = (next ≤ rows) × Passing effects kind value scratch at next state₀ state
@@ -27,7 +27,7 @@ slice-write-state c =
     let at-loop = at-if1.before.before.before in
     let at-args = at-loop.before in
     let h : (row_at at-args.args.effects.now at-loop.loop.next).a < length at-args.args.state.now = at-args.requires.named at-loop.loop.next
-    (omega arith) (acts-marked _ _ _ _ _ at-if1.if1.true c.before.if2.true) in
+    (omega arith) (acts_marked _ _ _ _ _ at-if1.if1.true c.before.if2.true) in
     omega (arith, at-loop.loop.invariant.1.same)
 
 loop-again : tie.Need-loop-preserved invariant-loop decreases-loop
@@ -35,13 +35,13 @@ unfolding row_at
 loop-again c =
     let at-if1 = c.before.before.before in
     let at-loop = at-if1.before.before.before in
-    (omega arith, act at-loop.loop.invariant.1 (acts-marked _ _ _ _ _ at-if1.if1.true c.before.if2.true))
+    (omega arith, act at-loop.loop.invariant.1 (acts_marked _ _ _ _ _ at-if1.if1.true c.before.if2.true))
 
 loop-again-2 : tie.Need-loop-preserved-2 invariant-loop decreases-loop
 unfolding row_at
 loop-again-2 c =
     let at-loop = c.before.before.before.before.before in
-    (omega arith, idle at-loop.loop.invariant.1 (acts-other-kind _ _ _ _ _ c.before.before.if1.true c.if2.false))
+    (omega arith, idle at-loop.loop.invariant.1 (acts_other_kind _ _ _ _ _ c.before.before.if1.true c.if2.false))
 
 loop-again-3 : tie.Need-loop-preserved-3 invariant-loop decreases-loop
 loop-again-3 c = (omega arith, idle c.before.before.before.loop.invariant.1 (acts_not_marked _ _ _ _ _ c.if1.false))

@@ -4,7 +4,7 @@ use Rattle.applying.proofs.effects.mark.Tie as tie
 use Prim.Native.Nat.{◌+◌, ◌≤◌}
 use native.Mathlib.Omega.{arith}
 use mathlib.Core.Path.{◌≡◌, ◌∙◌}
-use Rattle.applying.proofs.Marking.{Going, starts, still_markable, markable-here, passes, hands_on, finished}
+use Rattle.applying.proofs.Marking.{Going, starts, still_markable, markable_here, passes, hands_on, finished}
 
 abbrev invariant-loop : tie.invariant-loop
 invariant-loop effects root variables scratch₀ at left₀ scratch left =
@@ -36,7 +36,7 @@ hand-on-requires c κs =
     let at-loop = c.before.before.before.before in
     let at-begin-marks = at-loop.before.before.before in
     let at_pre = at-begin-marks.before.before.before.before in
-    markable-here (still_markable at_pre.requires at-begin-marks.begin-marks.ensures.same) (omega arith) at-loop.loop.invariant.0 at-loop.loop.invariant.1
+    markable_here (still_markable at_pre.requires at-begin-marks.begin-marks.ensures.same) (omega arith) at-loop.loop.invariant.0 at-loop.loop.invariant.1
 
 loop-again : tie.Need-loop-preserved invariant-loop decreases-loop
 loop-again c =

@@ -4,7 +4,7 @@ use borrow.Author.Rules.{rules}
 use Rattle.assembling.proofs.operator.assemble_operator.Statement.{statement}
 use Rattle.assembling.proofs.operator.assemble_operator.Tie as tie
 use Rattle.formula_builder.specs.Inner.Held.{row_of}
-use Rattle.assembling.proofs.Operators.{operator-written}
+use Rattle.assembling.proofs.Operators.{operator_written}
 use Rattle.task.specs.Table.{operator_at}
 
 returns : tie.Need-returns
@@ -15,7 +15,7 @@ returns c =
     let rules = at-write-records.write-records.ensures in (
       rules.0,
       λ twins p.
-          operator-written a.frame.variables twins a.records.now (row_of a.w) a.k (operator_at a.source.now a.o) (rules.1 twins p)
+          operator_written a.frame.variables twins a.records.now (row_of a.w) a.k (operator_at a.source.now a.o) (rules.1 twins p)
           start.requires.space c.before.before.store-with-parts.ensures,
     )
 

@@ -13,7 +13,7 @@ use Rattle.normal_form.specs.Assembly.{rules}
 use Rattle.rule_writer.specs.Inner.Writes.{Ready, Writes}
 use Rattle.rule_writer.proofs.Writing.{writes_placed}
 use Rattle.assembling.specs.Inner.Assembles.{changes_between, ForTwins}
-use Rattle.assembling.proofs.Operators.{change_below, records-none, records-more, records-all}
+use Rattle.assembling.proofs.Operators.{change_below, records_none, records_more, records_all}
 
 abbrev invariant-loop : tie.invariant-loop
 invariant-loop records places k end frame out₀ r₀ i₀ out r i =
@@ -29,7 +29,7 @@ loop-holds c =
       s.requires.in_order.order,
       refl,
       s.requires.ready.rows,
-      λ twins p. records-none s.args.frame.variables twins s.args.records.now s.args.k s.requires.ready.rows,
+      λ twins p. records_none s.args.frame.variables twins s.args.records.now s.args.k s.requires.ready.rows,
     )
 
 add-read-row : tie.Need-overflow-add-read-row invariant-loop decreases-loop
@@ -71,7 +71,7 @@ loop-again c =
       c.before.before.write-changes.auto.0 ∙ at-loop.loop.invariant.2,
       c.before.before.write-changes.ensures.ready,
       λ twins p.
-          records-more s.args.frame.variables twins s.args.records.now s.args.k at-loop.loop.i w at-loop.loop.invariant.0
+          records_more s.args.frame.variables twins s.args.records.now s.args.k at-loop.loop.i w at-loop.loop.invariant.0
           at-read-row.read-row.ensures (at-loop.loop.invariant.4 twins p)
           (writes_placed s.args.frame (record { variable = w.kind; adds = w.a; deletes = w.b }) p below c.before.before.write-changes.ensures),
     )
@@ -84,7 +84,7 @@ returns c =
     let s = c.before.before.before.before.before in (
       c.before.loop.invariant.3,
       λ twins p.
-          records-all s.args.frame.variables twins s.args.records.now s.args.k c.before.loop.i s.args.end
+          records_all s.args.frame.variables twins s.args.records.now s.args.k c.before.loop.i s.args.end
           (omega (arith, c.before.loop.invariant.1, c.loop-test.false)) (c.before.loop.invariant.4 twins p),
     )
 

@@ -7,7 +7,7 @@ use mathlib.Core.Path.{◌≡◌, refl, ◌∙◌}
 use native.Mathlib.Omega.{arith}
 use lib.ListN.{length}
 use Rattle.assembling.specs.Inner.Assembles.{begins_at, assembled_in, ForTwins, Holding}
-use Rattle.assembling.proofs.Operators.{begins-none, begins-next, assembling-begun, asks_operator, assembling-more, assembling-stop, assembling-done}
+use Rattle.assembling.proofs.Operators.{begins_none, begins_next, assembling_begun, asks_operator, assembling_more, assembling_stop, assembling_done}
 
 abbrev invariant-loop : tie.invariant-loop
 invariant-loop operators records places count frame out₀ written₀ rows₀ k₀ o₀ out written rows k o =
@@ -23,8 +23,8 @@ loop-holds c =
       omega arith,
       refl,
       refl,
-      begins-none s.args.records.now,
-      λ twins p. assembling-begun s.args.frame.variables twins s.args.operators.now s.args.records.now s.args.out.now
+      begins_none s.args.records.now,
+      λ twins p. assembling_begun s.args.frame.variables twins s.args.operators.now s.args.records.now s.args.out.now
           s.args.written.now (omega (arith, a.one, a.space)) a.blank a.blank_operators,
       a.one,
     )
@@ -66,7 +66,7 @@ returns c =
     let w = at-read-row.read-row in
     let done = at-assemble-operator.assemble_operator in
     λ twins p.
-    assembling-stop s.args.frame.variables twins s.args.operators.now s.args.records.now at.o w.result w.ensures at.invariant.3
+    assembling_stop s.args.frame.variables twins s.args.operators.now s.args.records.now at.o w.result w.ensures at.invariant.3
     (at.invariant.4 twins p) (done.ensures.1 twins p) s.args.count at-loop-test.loop-test.true c.if1.true
 
 add-o : tie.Need-overflow-add-o invariant-loop decreases-loop
@@ -93,9 +93,9 @@ loop-again c =
       omega (arith, at-loop-test.loop-test.true),
       done.auto.1.1.1.1.1.1.1.1.0 ∙ at.invariant.1,
       done.auto.1.1.1.1.1.1.1.1.1.0 ∙ at.invariant.2,
-      begins-next s.args.records.now at.o w.ensures,
+      begins_next s.args.records.now at.o w.ensures,
       λ twins p.
-          assembling-more s.args.frame.variables twins s.args.operators.now s.args.records.now at.o w.result w.ensures at.invariant.3
+          assembling_more s.args.frame.variables twins s.args.operators.now s.args.records.now at.o w.result w.ensures at.invariant.3
           (at.invariant.4 twins p) (done.ensures.1 twins p) c.before.if1.false,
       done.ensures.0.within,
     )
@@ -111,7 +111,7 @@ returns-2 c =
     let s = c.before.before.before.before.before.before.before in
     let at = c.before.loop in
     λ twins p.
-    assembling-done s.args.frame.variables twins s.args.operators.now s.args.records.now at.o s.args.count
+    assembling_done s.args.frame.variables twins s.args.operators.now s.args.records.now at.o s.args.count
     (omega (arith, at.invariant.0, c.loop-test.false)) (at.invariant.4 twins p) at.invariant.5
 
 pub assemble-placed-spec : {M : Type 1} → statement M

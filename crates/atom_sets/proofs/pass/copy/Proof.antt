@@ -9,7 +9,7 @@ use native.Mathlib.Omega.{arith}
 use mathlib.Core.Path.{◌≡◌, refl, ◌∙◌}
 use lib.ListN.{length}
 use Rattle.atom_sets.specs.Inner.Finds.{copied, Written}
-use Rattle.atom_sets.proofs.Words.{written_none, room-four, copied_more, written_all}
+use Rattle.atom_sets.proofs.Words.{written_none, room_four, copied_more, written_all}
 
 abbrev invariant-loop : tie.invariant-loop
 invariant-loop notes₀ n a i k₀ notes k = (k ≤ n) × (k % 4 ≡ 0) × (length notes ≡ length notes₀) × Written k i (copied notes₀ a) notes₀ notes
@@ -34,7 +34,7 @@ add-copy-four-2 c = omega (arith, c.before.before.before.before.requires, c.befo
 copy-four-requires : tie.Need-copy-four-requires invariant-loop decreases-loop
 copy-four-requires c κs =
     let at_pre = c.before.before.before.before in
-    room-four c.before.before.loop.k at_pre.requires.1 (omega (arith, at_pre.requires.0, c.before.before.loop.invariant)) c.before.before.loop.invariant.2
+    room_four c.before.before.loop.k at_pre.requires.1 (omega (arith, at_pre.requires.0, c.before.before.loop.invariant)) c.before.before.loop.invariant.2
 
 -- src/pass.rt:63:9
 add-k : tie.Need-overflow-add-k invariant-loop decreases-loop

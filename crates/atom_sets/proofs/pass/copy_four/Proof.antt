@@ -6,7 +6,7 @@ use Rattle.atom_sets.proofs.pass.copy_four.Reads as reads
 use Rattle.atom_sets.proofs.pass.copy_four.Lts as lts
 use native.Mathlib.Omega.{arith}
 use lib.ListN.{length-set}
-use Rattle.atom_sets.proofs.Words.{copied-four}
+use Rattle.atom_sets.proofs.Words.{copied_four}
 
 -- src/pass.rt:50:5
 slice-write-notes-2 : tie.Need-slice-write-notes-2
@@ -22,7 +22,7 @@ slice-write-notes-4 c = simp length-set (omega (arith, c.before.before.before.be
 
 -- src/pass.rt:41:1
 returns : tie.Need-returns
-returns c = copied-four c.before.before.before.before.requires
+returns c = copied_four c.before.before.before.before.requires
 
 pub copy-four-spec : {M : Type 1} → statement M
 copy-four-spec =

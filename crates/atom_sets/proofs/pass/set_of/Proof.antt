@@ -12,7 +12,7 @@ use Rattle.atom_sets.proofs.pass.unite.Reads as unite-reads
 use Rattle.formula_builder.proofs.read_row.Reads as read-row-reads
 use native.Mathlib.Omega.{arith}
 use Rattle.atom_sets.proofs.Places.{whole_fours}
-use Rattle.atom_sets.proofs.Finds.{both-lower, under-lower, row_within, atom_within, row_room, found-both, found-under, found-empty, found-atom}
+use Rattle.atom_sets.proofs.Finds.{both_lower, under_lower, row_within, atom_within, row_room, found_both, found_under, found_empty, found_atom}
 
 -- src/pass.rt:94:13
 set-start-requires-2 : tie.Need-set-start-requires-2
@@ -20,7 +20,7 @@ set-start-requires-2 c κs =
     let at-read-row = c.before.before.before.before.before in
     let s = at-read-row.before.before.before in
     let r = at-read-row.read-row in row_within s.requires r.result r.ensures r.result.a
-    (omega (arith, both-lower s.requires r.result r.ensures c.before.if1.true))
+    (omega (arith, both_lower s.requires r.result r.ensures c.before.if1.true))
 
 -- src/pass.rt:95:13
 set-start-requires-3 : tie.Need-set-start-requires-3
@@ -29,7 +29,7 @@ set-start-requires-3 c κs =
     let at-read-row = at-if1.before.before.before.before in
     let s = at-read-row.before.before.before in
     let r = at-read-row.read-row in row_within s.requires r.result r.ensures r.result.b
-    (omega (arith, both-lower s.requires r.result r.ensures at-if1.if1.true))
+    (omega (arith, both_lower s.requires r.result r.ensures at-if1.if1.true))
 
 -- src/pass.rt:96:9
 unite-requires : tie.Need-unite-requires
@@ -40,7 +40,7 @@ unite-requires c κs =
     let at-set-words = at-set-start.before in
     let at-read-row = at-set-words.before in
     let s = at-read-row.before.before.before in
-    let r = at-read-row.read-row in let low = both-lower s.requires r.result r.ensures at-if1.if1.true in (
+    let r = at-read-row.read-row in let low = both_lower s.requires r.result r.ensures at-if1.if1.true in (
       omega (arith, whole_fours s.args.frame, at-set-words.set_words.ensures),
       row_room s.requires r.result r.ensures at-set-words.set_words.ensures.0 at-set-start.set_start.ensures r.result.a low.0
           at-set-start2.set-start2.ensures,
@@ -58,7 +58,7 @@ returns c =
     let at-set-words = at-set-start.before in
     let at-read-row = at-set-words.before in
     let s = at-read-row.before.before.before in
-    let r = at-read-row.read-row in found-both s.requires r.result r.ensures at-set-words.set_words.ensures.0
+    let r = at-read-row.read-row in found_both s.requires r.result r.ensures at-set-words.set_words.ensures.0
     at-set-start.set_start.ensures at-if1.if1.true at-set-start2.set-start2.ensures at-set-start3.set-start3.ensures
     c.before.before.unite.ensures
 
@@ -68,7 +68,7 @@ set-start-requires-4 c κs =
     let at-read-row = c.before.before.before.before.before.before.before in
     let s = at-read-row.before.before.before in
     let r = at-read-row.read-row in row_within s.requires r.result r.ensures r.result.b
-    (omega (arith, under-lower s.requires r.result r.ensures c.before.if2.true))
+    (omega (arith, under_lower s.requires r.result r.ensures c.before.if2.true))
 
 -- src/pass.rt:101:9
 copy-requires : tie.Need-copy-requires
@@ -81,7 +81,7 @@ copy-requires c κs =
     let r = at-read-row.read-row in (
       omega (arith, whole_fours s.args.frame, at-set-words.set_words.ensures),
       row_room s.requires r.result r.ensures at-set-words.set_words.ensures.0 at-set-start.set_start.ensures r.result.b
-          (under-lower s.requires r.result r.ensures at-if2.if2.true) c.before.set-start4.ensures,
+          (under_lower s.requires r.result r.ensures at-if2.if2.true) c.before.set-start4.ensures,
     )
 
 -- src/pass.rt:102:9
@@ -93,7 +93,7 @@ returns-2 c =
     let at-set-words = at-set-start.before in
     let at-read-row = at-set-words.before in
     let s = at-read-row.before.before.before in
-    let r = at-read-row.read-row in found-under s.requires r.result r.ensures at-set-words.set_words.ensures.0
+    let r = at-read-row.read-row in found_under s.requires r.result r.ensures at-set-words.set_words.ensures.0
     at-set-start.set_start.ensures at-if2.if2.true at-set-start4.set-start4.ensures c.before.before.copy.ensures
 
 -- src/pass.rt:105:9
@@ -101,7 +101,7 @@ returns-3 : tie.Need-returns-3
 returns-3 c =
     let at-read-row = c.before.before.before.before.before.before.before.before in
     let s = at-read-row.before.before.before in
-    let r = at-read-row.read-row in found-empty s.requires r.result r.ensures c.if3.true
+    let r = at-read-row.read-row in found_empty s.requires r.result r.ensures c.if3.true
 
 -- src/pass.rt:107:5
 put-atom-requires : tie.Need-put-atom-requires
@@ -122,7 +122,7 @@ returns-4 c =
     let at-if1 = at-if2.before.before in
     let at-read-row = at-if1.before.before.before.before in
     let s = at-read-row.before.before.before in
-    let r = at-read-row.read-row in found-atom s.requires r.result r.ensures at-if1.if1.false at-if2.if2.false
+    let r = at-read-row.read-row in found_atom s.requires r.result r.ensures at-if1.if1.false at-if2.if2.false
     at-if3.if3.false c.before.before.put-atom.ensures
 
 pub set-of-spec : {M : Type 1} → statement M

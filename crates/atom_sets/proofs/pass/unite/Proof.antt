@@ -9,7 +9,7 @@ use native.Mathlib.Omega.{arith}
 use mathlib.Core.Path.{◌≡◌, refl, ◌∙◌}
 use lib.ListN.{length}
 use Rattle.atom_sets.specs.Inner.Finds.{united, Written}
-use Rattle.atom_sets.proofs.Words.{written_none, room-four, united_more, written_all}
+use Rattle.atom_sets.proofs.Words.{written_none, room_four, united_more, written_all}
 
 abbrev invariant-loop : tie.invariant-loop
 invariant-loop notes₀ n a b i k₀ notes k = (k ≤ n) × (k % 4 ≡ 0) × (length notes ≡ length notes₀) × Written k i (united notes₀ a b) notes₀ notes
@@ -43,8 +43,8 @@ unite-four-requires : tie.Need-unite-four-requires invariant-loop decreases-loop
 unite-four-requires c κs =
     let at-args = c.before.before.before.before in
     let h : c.before.before.loop.k + 4 ≤ at-args.args.n = omega (arith, at-args.requires.0, c.before.before.loop.invariant) in (
-      room-four c.before.before.loop.k at-args.requires.1 h c.before.before.loop.invariant.2,
-      room-four c.before.before.loop.k at-args.requires.2 h c.before.before.loop.invariant.2,
+      room_four c.before.before.loop.k at-args.requires.1 h c.before.before.loop.invariant.2,
+      room_four c.before.before.loop.k at-args.requires.2 h c.before.before.loop.invariant.2,
     )
 
 -- src/pass.rt:36:9

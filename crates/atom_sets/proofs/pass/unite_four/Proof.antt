@@ -6,7 +6,7 @@ use Rattle.atom_sets.proofs.pass.unite_four.Reads as reads
 use Rattle.atom_sets.proofs.pass.unite_four.Lts as lts
 use native.Mathlib.Omega.{arith}
 use lib.ListN.{length-set}
-use Rattle.atom_sets.proofs.Words.{united-four}
+use Rattle.atom_sets.proofs.Words.{united_four}
 
 -- src/pass.rt:23:5
 slice-write-notes-2 : tie.Need-slice-write-notes-2
@@ -24,7 +24,7 @@ slice-write-notes-4 c = simp length-set (omega (arith, c.before.before.before.be
 returns : tie.Need-returns
 returns c =
     let at_pre = c.before.before.before.before.before.before.before.before in
-    united-four at_pre.requires.0 at_pre.args.b
+    united_four at_pre.requires.0 at_pre.args.b
 
 pub unite-four-spec : {M : Type 1} → statement M
 unite-four-spec =

@@ -5,14 +5,14 @@ use Rattle.building.proofs.taking.take_operator.Statement.{statement}
 use Rattle.building.proofs.taking.take_operator.Tie as tie
 use mathlib.Core.Path.{refl, ◌∙◌}
 use native.Mathlib.Omega.{arith}
-use Rattle.building.proofs.Begun.{leaves_stopped, took-full, asks_operator, opens, took-over, took-many, took}
+use Rattle.building.proofs.Begun.{leaves_stopped, took_full, asks_operator, opens, took-over, took-many, took}
 use Rattle.variable_changes.proofs.Standing.{leaves_same}
 
 returns : tie.Need-returns
 returns c =
     let start = c.before.before.before.before.before.before.before.before.before.before.before in
     let a = start.args in (
-      took-full a.frame a.formulas.now a.effects.now a.operators.now start.requires c.before.if1.true c.no_room.ensures,
+      took_full a.frame a.formulas.now a.effects.now a.operators.now start.requires c.before.if1.true c.no_room.ensures,
       leaves_stopped c.no_room.ensures,
     )
 

@@ -9,19 +9,19 @@ use Rattle.rule_writer.proofs.store.Reads as store-reads
 use mathlib.Core.Path.{sym, ◌∙◌}
 use native.Mathlib.Omega.{arith}
 use Rattle.rule_writer.specs.Inner.Writes.{changes_in}
-use Rattle.change_records.proofs.Keeping.{recorded-idle, recorded-past, recorded-one}
+use Rattle.change_records.proofs.Keeping.{recorded_idle, recorded_past, recorded_one}
 
 -- src/keep.rt:26:9
 returns : tie.Need-returns
 returns c =
     let at-args = c.before.before.before in
-    recorded-idle at-args.args.k at-args.args.records.now (changes_in at-args.args.c) (sym c.before.brings-none.ensures ∙ c.if1.true)
+    recorded_idle at-args.args.k at-args.args.records.now (changes_in at-args.args.c) (sym c.before.brings-none.ensures ∙ c.if1.true)
 
 -- src/keep.rt:29:9
 returns-2 : tie.Need-returns-2
 returns-2 c =
     let at-args = c.before.before.before.before in
-    recorded-past at-args.args.k at-args.args.records.now (changes_in at-args.args.c)
+    recorded_past at-args.args.k at-args.args.records.now (changes_in at-args.args.c)
     (sym c.before.before.brings-none.ensures ∙ c.before.if1.false) c.if2.true
 
 -- src/keep.rt:20:1
@@ -31,7 +31,7 @@ returns-3 c =
     let at-brings-none = at-if1.before in
     let at-args = at-brings-none.before.before in
     rw c.before.before.store.ensures
-    (recorded-one at-args.args.k at-args.args.records.now (changes_in at-args.args.c)
+    (recorded_one at-args.args.k at-args.args.records.now (changes_in at-args.args.c)
     (sym at-brings-none.brings-none.ensures ∙ at-if1.if1.false) (omega (arith, at-args.requires.room)))
 
 pub keep-change-spec : {M : Type 1} → statement M

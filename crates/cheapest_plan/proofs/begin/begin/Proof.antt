@@ -3,7 +3,7 @@ use native.Mathlib.Omega.{arith}
 use mathlib.Core.Path.{◌∙◌}
 use lib.ListN.{length-set}
 use Rattle.state_queue.proofs.Playing.{roomy_on}
-use Rattle.cheapest_plan.proofs.Beginning.{begin-nearly, begins}
+use Rattle.cheapest_plan.proofs.Beginning.{begin_nearly, begins}
 use borrow.Author.Rules.{rules}
 use Rattle.cheapest_plan.proofs.begin.begin.Statement.{statement}
 use Rattle.cheapest_plan.proofs.begin.begin.Tie as tie
@@ -37,7 +37,7 @@ raise-requires c κs =
     let at_start = at-empty.before.before.before in
     let long = at-set-nodes.set-nodes.auto.0 ∙ at-empty.empty.auto.0 in (
       roomy_on at_start.requires.0 (length-set at-set-nodes.set-nodes.new.0 at_start.args.start 1 ∙ long),
-      begin-nearly at-empty.empty.ensures at-set-nodes.set-nodes.ensures at_start.requires.1 (omega (arith, at_start.requires.0, long)),
+      begin_nearly at-empty.empty.ensures at-set-nodes.set-nodes.ensures at_start.requires.1 (omega (arith, at_start.requires.0, long)),
     )
 
 -- src/begin.rt:24:1

@@ -6,7 +6,7 @@ use lib.ListN.{length, get_or}
 use Rattle.task.specs.Table.{lent}
 use Rattle.cheapest_plan.specs.Planned.{search_refusal}
 use Rattle.cheapest_plan.proofs.Refusing.{search_ready}
-use Rattle.cheapest_plan.proofs.Calls.{plan-refuses, plan-gives, clear_again, clear_behind, ready_told}
+use Rattle.cheapest_plan.proofs.Calls.{plan_refuses, plan_gives, clear_again, clear_behind, ready_told}
 use borrow.Author.Rules.{rules}
 use Rattle.cheapest_plan.proofs.call.cheapest.Statement.{statement}
 use Rattle.cheapest_plan.proofs.call.cheapest.Tie as tie
@@ -64,7 +64,7 @@ returns c =
     let l = lent a.head a.initial.now a.twins.now a.formulas.now a.effects.now a.operators.now in
     let scratch = a.scratch.now in
     let words = a.words.now in
-    plan-refuses l a.plan.now scratch words at-refused-early.refused-early.result at-refused-early.refused-early.ensures at-if1.if1.true
+    plan_refuses l a.plan.now scratch words at-refused-early.refused-early.result at-refused-early.refused-early.ensures at-if1.if1.true
     c.refused.result at-clear-words.clear-words.new.0
     at-clear-bytes.clear-bytes.new.0 at-clear-long-words.clear-long-words.new.0 c.refused.ensures at-clear-words.clear-words.ensures
     at-clear-bytes.clear-bytes.ensures
@@ -126,7 +126,7 @@ returns-2 c =
     let words16 : (i : ℕ) → get_or a.operators.now i 0 < 65536 = λ i. omega (arith, known i) in
     let passed : search_refusal l scratch words ≡ 0 = sym at-refused-early.refused-early.ensures ∙ at-if1.if1.false in
     let ready = at-plan-ready.plan-ready in
-    plan-gives l a.plan.now scratch words at-refused-early.refused-early.result at-refused-early.refused-early.ensures at-if1.if1.false
+    plan_gives l a.plan.now scratch words at-refused-early.refused-early.result at-refused-early.refused-early.ensures at-if1.if1.false
     ready.result at-clear-words.clear-words.new.0
     ready.new.1.1.1.1.1.0 at-clear-bytes2.clear-bytes2.new.0 at-clear-long-words2.clear-long-words2.new.0 at-clear-words.clear-words.auto.0
     (ready_told l words16 scratch words passed (ready.ensures.told (search_ready l words16 scratch words passed)))

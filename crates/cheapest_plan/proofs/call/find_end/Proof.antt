@@ -5,7 +5,7 @@ use Prim.Native.Nat.{◌-◌}
 use lib.ListN.{replicate, take}
 use Rattle.state_queue.proofs.Playing.{roomy_on}
 use Rattle.cheapest_plan.proofs.Rounds.{goal_ready_on}
-use Rattle.cheapest_plan.proofs.Calls.{search-roomy, search-goal, start-bits, start-few, searchable, searched, none_found, end_ready, end-found, front_is, front_length}
+use Rattle.cheapest_plan.proofs.Calls.{search_roomy, search_goal, start_bits, start_few, searchable, searched, none_found, end_ready, end_found, front_is, front_length}
 use borrow.Author.Rules.{rules}
 use Rattle.cheapest_plan.proofs.call.find_end.Statement.{statement}
 use Rattle.cheapest_plan.proofs.call.find_end.Tie as tie
@@ -52,7 +52,7 @@ code-of-requires c κs =
     let states = at_start.requires.1 in
     let front = front_is a.head.variables a.initial.now in
     let size = front_length a.head.variables (replicate 10 0) v.few in
-    (start-bits v states front, start-few v states front)
+    (start_bits v states front, start_few v states front)
 
 -- src/call.rt:50:9
 search-requires : tie.Need-search-requires
@@ -64,8 +64,8 @@ search-requires c κs =
     let states = at_start.requires.1 in
     let front = front_is a.head.variables a.initial.now in
     let size = front_length a.head.variables (replicate 10 0) v.few in (
-      search-goal v states size,
-      ((search-roomy v states, v.effects), searchable v states front at-code-of.code_of_lem.ensures),
+      search_goal v states size,
+      ((search_roomy v states, v.effects), searchable v states front at-code-of.code_of_lem.ensures),
     )
 
 -- src/call.rt:62:9
@@ -105,9 +105,9 @@ best-end-requires c κs =
     let states = at_start.requires.1 in
     let front = front_is a.head.variables a.initial.now in
     let size = front_length a.head.variables (replicate 10 0) v.few in
-    let roomy = roomy_on (search-roomy v states) at-search.search.auto.1.1.1.1.1.1.0 in
+    let roomy = roomy_on (search_roomy v states) at-search.search.auto.1.1.1.1.1.1.0 in
     let end = searched v states front at-code-of.code_of_lem.ensures (at-search.search.ensures.told (searchable v states front at-code-of.code_of_lem.ensures)) in (
-      goal_ready_on {state = take (a.head.variables - 0) (replicate 10 0)} (search-goal v states size) at-search.search.auto.1.1.1.1.1.0
+      goal_ready_on {state = take (a.head.variables - 0) (replicate 10 0)} (search_goal v states size) at-search.search.auto.1.1.1.1.1.0
           at-search.search.auto.1.1.1.1.1.1.1.1.0,
       (roomy, end_ready v states roomy end c.before.before.if1.false),
     )
@@ -133,7 +133,7 @@ returns-2 c =
     let states = at_start.requires.1 in
     let front = front_is a.head.variables a.initial.now in
     let size = front_length a.head.variables (replicate 10 0) v.few in
-    let roomy = roomy_on (search-roomy v states) at-search.search.auto.1.1.1.1.1.1.0 in
+    let roomy = roomy_on (search_roomy v states) at-search.search.auto.1.1.1.1.1.1.0 in
     let other = at-if1.if1.false in
     let told = at-search.search.ensures in
     let best = at-best-end.best-end.ensures in
@@ -141,7 +141,7 @@ returns-2 c =
     record {
       told = λ v.
           let end = searched v states front coded (told.told (searchable v states front coded)) in
-          end-found v states roomy end other best.there (best.told (end_ready v states roomy end other));
+          end_found v states roomy end other best.there (best.told (end_ready v states roomy end other));
     }
 
 pub find-end-spec : {M : Type 1} → statement M

@@ -1,6 +1,6 @@
 -- `plan_ready` meets its contract: the best end, and what is told of it. Assumes nothing.
 use Rattle.state_queue.proofs.Playing.{roomy_on}
-use Rattle.cheapest_plan.proofs.Calls.{search-roomy, told_none, tell_ready, told-found}
+use Rattle.cheapest_plan.proofs.Calls.{search_roomy, told_none, tell_ready, told_found}
 use borrow.Author.Rules.{rules}
 use Rattle.cheapest_plan.proofs.call.plan_ready.Statement.{statement}
 use Rattle.cheapest_plan.proofs.call.plan_ready.Tie as tie
@@ -46,7 +46,7 @@ tell-plan-requires c κs =
     let at-states-of = at-find-end.before.before.before in
     let at_start = at-states-of.before.before.before.before.before.before.before.before in
     let pre = at_start.requires in (
-      roomy_on (search-roomy pre.0 at-states-of.states-of.ensures.0) at-find-end.find-end.auto.1.1.1.1.1.1.0,
+      roomy_on (search_roomy pre.0 at-states-of.states-of.ensures.0) at-find-end.find-end.auto.1.1.1.1.1.1.0,
       tell_ready (at-find-end.find-end.ensures.told pre.0) pre.1 c.before.before.if1.false,
     )
 
@@ -73,7 +73,7 @@ returns-2 c =
     record {
       told = λ v.
           let end = at-find-end.find-end.ensures.told v in
-          told-found end clear other (c.before.before.tell-plan.ensures.told (tell_ready end clear other));
+          told_found end clear other (c.before.before.tell-plan.ensures.told (tell_ready end clear other));
     }
 
 pub plan-ready-spec : {M : Type 1} → statement M

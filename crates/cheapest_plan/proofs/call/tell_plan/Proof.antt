@@ -1,6 +1,6 @@
 -- `tell_plan` meets its contract: the plan is too long, or it is written. Assumes nothing.
 use native.Mathlib.Omega.{arith}
-use Rattle.cheapest_plan.proofs.Calls.{end-at, tell-long, writable, tell-written}
+use Rattle.cheapest_plan.proofs.Calls.{end_at, tell_long, writable, tell-written}
 use borrow.Author.Rules.{rules}
 use Rattle.cheapest_plan.proofs.call.tell_plan.Statement.{statement}
 use Rattle.cheapest_plan.proofs.call.tell_plan.Tie as tie
@@ -25,7 +25,7 @@ shared-slice-read-steps c = search rules
 cast-if1 : tie.Need-overflow-cast-if1
 cast-if1 c =
     let at_start = c.before.before.before in
-    let at = end-at at_start.requires.1 in omega (arith, at.steps, at.few)
+    let at = end_at at_start.requires.1 in omega (arith, at.steps, at.few)
 
 -- src/call.rt:74:9
 refused-requires : tie.Need-refused-requires
@@ -33,7 +33,7 @@ refused-requires c κs = search rules
 
 -- src/call.rt:74:9
 returns : tie.Need-returns
-returns c = record { told = λ v. tell-long v c.before.if1.true c.refused.ensures }
+returns c = record { told = λ v. tell_long v c.before.if1.true c.refused.ensures }
 
 -- src/call.rt:76:31
 cast-write-plan : tie.Need-overflow-cast-write-plan
@@ -57,13 +57,13 @@ shared-slice-read-t9 c = search rules
 sub-t15 : tie.Need-overflow-sub-t15
 sub-t15 c =
     let at_start = c.before.before.before.before.before.before.before.before.before in
-    let at = end-at at_start.requires.1 in omega (arith, at.word)
+    let at = end_at at_start.requires.1 in omega (arith, at.word)
 
 -- src/call.rt:80:15
 cast-t16 : tie.Need-overflow-cast-t16
 cast-t16 c =
     let at_start = c.before.before.before.before.before.before.before.before.before in
-    let at = end-at at_start.requires.1 in omega (arith, at.word, at.bound)
+    let at = end_at at_start.requires.1 in omega (arith, at.word, at.bound)
 
 -- src/call.rt:68:1
 same_length : tie.Need-same-length

@@ -5,7 +5,7 @@ use mathlib.Core.Path.{◌≡◌, refl, ◌∙◌}
 use lib.ListN.{length}
 use Rattle.cheapest_plan.specs.Inner.Visits.{EndReady}
 use Rattle.cheapest_plan.proofs.Rounds.{goal_ready_on}
-use Rattle.cheapest_plan.proofs.Ending.{Best, best-begin, candidate, best-round, best-found}
+use Rattle.cheapest_plan.proofs.Ending.{Best, best_begin, candidate, best_round, best_found}
 use Rattle.cheapest_plan.proofs.ends.best_end.Statement.{statement}
 use Rattle.cheapest_plan.proofs.ends.best_end.Tie as tie
 use Rattle.cheapest_plan.proofs.ends.best_end.Reads as reads
@@ -24,7 +24,7 @@ decreases-loop head formulas first state₀ words n scratch₀ end₀ t₀ state
 
 -- src/ends.rt:54:5
 loop-holds : tie.Need-loop-init invariant-loop decreases-loop
-loop-holds c = (refl, refl, omega arith, λ v. best-begin v)
+loop-holds c = (refl, refl, omega arith, λ v. best_begin v)
 
 -- src/ends.rt:55:12
 replaces-requires : tie.Need-replaces-requires invariant-loop decreases-loop
@@ -58,7 +58,7 @@ loop-again c =
       at-replaces.replaces.auto.1.1.1.1.1.1.1.0 ∙ inv.1,
       omega arith,
       λ v.
-          best-round v (inv.3 v) (at-replaces.replaces.ensures.told (candidate v (inv.3 v))) at-loop-test.loop-test.true c.if1.branch
+          best_round v (inv.3 v) (at-replaces.replaces.ensures.told (candidate v (inv.3 v))) at-loop-test.loop-test.true c.if1.branch
           (λ x. (x.0.taken, x.1)) (λ x. (x.0.left, x.1)),
     )
 
@@ -76,7 +76,7 @@ returns c =
     let at_start = c.before.before.before.before.before.before in
     let at = c.before.loop in
     let v = at_start.requires.1.1 in
-    record { there = (at.invariant.3 v).there; told = λ v. best-found v (at.invariant.3 v) (omega arith) }
+    record { there = (at.invariant.3 v).there; told = λ v. best_found v (at.invariant.3 v) (omega arith) }
 
 pub best-end-spec : {M : Type 1} → statement M
 best-end-spec =

@@ -1,6 +1,6 @@
 -- `replaces` meets its contract: the cost, the steps, the numbers and the goal decide. Assumes nothing.
 use borrow.Author.Tests.{not-true, not-false}
-use Rattle.cheapest_plan.proofs.Ending.{other-cost, other-steps, ends_comparable, comes-behind, goal-decides}
+use Rattle.cheapest_plan.proofs.Ending.{other_cost, other_steps, ends_comparable, comes-behind, goal-decides}
 use borrow.Author.Rules.{rules}
 use Rattle.cheapest_plan.proofs.ends.replaces.Statement.{statement}
 use Rattle.cheapest_plan.proofs.ends.replaces.Tie as tie
@@ -29,7 +29,7 @@ shared-slice-read-if1-2 c = search rules
 returns : tie.Need-returns
 returns c =
     let at_start = c.before.before.before.before.before.before.before in
-    record { told = λ v. other-cost v at_start.requires.1.0.1 c.if1.true }
+    record { told = λ v. other_cost v at_start.requires.1.0.1 c.if1.true }
 
 -- src/ends.rt:29:14
 add-if2 : tie.Need-overflow-add-if2
@@ -59,7 +59,7 @@ shared-slice-read-if2-2 c = search rules
 returns-2 : tie.Need-returns-2
 returns-2 c =
     let at_start = c.before.before.before.before.before.before.before.before.before.before in
-    record { told = λ v. other-steps v at_start.requires.1.0.1 c.if2.true }
+    record { told = λ v. other_steps v at_start.requires.1.0.1 c.if2.true }
 
 -- src/ends.rt:32:34
 mul-precedes : tie.Need-overflow-mul-precedes

@@ -1,6 +1,6 @@
 -- `step_from` meets its contract: an operator that is applicable is stepped. Assumes nothing.
 use native.Mathlib.Omega.{arith}
-use Rattle.cheapest_plan.proofs.Expanding.{zeros_none, asked-inside, not-stepped, effect-inside, sums-fit, relaxable, stepped-on}
+use Rattle.cheapest_plan.proofs.Expanding.{zeros_none, asked-inside, not-stepped, effect_inside, sums-fit, relaxable, stepped-on}
 use borrow.Author.Rules.{rules}
 use Rattle.cheapest_plan.proofs.expand.step_from.Statement.{statement}
 use Rattle.cheapest_plan.proofs.expand.step_from.Tie as tie
@@ -54,7 +54,7 @@ shared-slice-read-next-code : tie.Need-shared-slice-read-next-code
 shared-slice-read-next-code c =
     let at-effect-of = c.before in
     let at_start = at-effect-of.before.before.before.before.before.before.before.before.before in
-    effect-inside at_start.requires.1.stage at_start.requires.1.stepping at_start.requires.0 at-effect-of.effect_of.ensures
+    effect_inside at_start.requires.1.stage at_start.requires.1.stepping at_start.requires.0 at-effect-of.effect_of.ensures
 
 -- src/expand.rt:36:9
 next-code-requires : tie.Need-next-code-requires

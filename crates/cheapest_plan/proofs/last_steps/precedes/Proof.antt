@@ -2,7 +2,7 @@
 use borrow.Author.Rules.{rules}
 use native.Mathlib.Omega.{arith}
 use Rattle.cheapest_plan.specs.Inner.Tables.{Comparable}
-use Rattle.cheapest_plan.proofs.Comparing.{steps_to, Parted, parted-begin, apart, a-below, b-below, parted-on, parted-less, parted-end}
+use Rattle.cheapest_plan.proofs.Comparing.{steps_to, Parted, parted_begin, apart, a_below, b_below, parted_on, parted_less, parted_end}
 use Rattle.cheapest_plan.proofs.last_steps.precedes.Statement.{statement}
 use Rattle.cheapest_plan.proofs.last_steps.precedes.Tie as tie
 use Rattle.cheapest_plan.proofs.last_steps.precedes.Reads as reads
@@ -17,7 +17,7 @@ decreases-loop words n first second x₀ y₀ x y = steps_to words n x
 
 -- src/last_steps.rt:31:5
 loop-holds : tie.Need-loop-init invariant-loop decreases-loop
-loop-holds c = λ h. parted-begin h
+loop-holds c = λ h. parted_begin h
 
 -- src/last_steps.rt:32:13
 parent-of-requires : tie.Need-parent-of-requires invariant-loop decreases-loop
@@ -46,7 +46,7 @@ add-x c =
     let at_start = at-loop.before.before in
     let h = at_start.requires.1 in
     let w = apart h (at-loop.loop.invariant h) c.before.before.loop-test.true in
-    omega (arith, at_start.requires.0, a-below h w c.before.parent_of.ensures c.parent-of2.ensures)
+    omega (arith, at_start.requires.0, a_below h w c.before.parent_of.ensures c.parent-of2.ensures)
 
 -- src/last_steps.rt:34:13
 mul-x-2 : tie.Need-overflow-mul-x-2 invariant-loop decreases-loop
@@ -55,7 +55,7 @@ mul-x-2 c =
     let at_start = at-loop.before.before in
     let h = at_start.requires.1 in
     let w = apart h (at-loop.loop.invariant h) c.before.before.loop-test.true in
-    omega (arith, at_start.requires.0, a-below h w c.before.parent_of.ensures c.parent-of2.ensures)
+    omega (arith, at_start.requires.0, a_below h w c.before.parent_of.ensures c.parent-of2.ensures)
 
 -- src/last_steps.rt:34:13
 shared-slice-read-x : tie.Need-shared-slice-read-x invariant-loop decreases-loop
@@ -65,7 +65,7 @@ shared-slice-read-x c =
     let at_start = at-loop.before.before in
     let h = at_start.requires.1 in
     let w = apart h (at-loop.loop.invariant h) at-loop-test.loop-test.true in
-    omega (arith, at_start.requires.0, a-below h w c.before.before.parent_of.ensures c.before.parent-of2.ensures)
+    omega (arith, at_start.requires.0, a_below h w c.before.before.parent_of.ensures c.before.parent-of2.ensures)
 
 -- src/last_steps.rt:35:19
 mul-y : tie.Need-overflow-mul-y invariant-loop decreases-loop
@@ -81,7 +81,7 @@ add-y c =
     let at_start = at-loop.before.before in
     let h = at_start.requires.1 in
     let w = apart h (at-loop.loop.invariant h) at-loop-test.loop-test.true in
-    omega (arith, at_start.requires.0, b-below h w c.before.before.parent_of.ensures c.before.parent-of2.ensures)
+    omega (arith, at_start.requires.0, b_below h w c.before.before.parent_of.ensures c.before.parent-of2.ensures)
 
 -- src/last_steps.rt:35:13
 mul-y-2 : tie.Need-overflow-mul-y-2 invariant-loop decreases-loop
@@ -91,7 +91,7 @@ mul-y-2 c =
     let at_start = at-loop.before.before in
     let h = at_start.requires.1 in
     let w = apart h (at-loop.loop.invariant h) at-loop-test.loop-test.true in
-    omega (arith, at_start.requires.0, b-below h w c.before.before.parent_of.ensures c.before.parent-of2.ensures)
+    omega (arith, at_start.requires.0, b_below h w c.before.before.parent_of.ensures c.before.parent-of2.ensures)
 
 -- src/last_steps.rt:35:13
 shared-slice-read-y : tie.Need-shared-slice-read-y invariant-loop decreases-loop
@@ -102,7 +102,7 @@ shared-slice-read-y c =
     let at_start = at-loop.before.before in
     let h = at_start.requires.1 in
     let w = apart h (at-loop.loop.invariant h) at-loop-test.loop-test.true in
-    omega (arith, at_start.requires.0, b-below h w at-parent-of.parent_of.ensures c.before.before.parent-of2.ensures)
+    omega (arith, at_start.requires.0, b_below h w at-parent-of.parent_of.ensures c.before.before.parent-of2.ensures)
 
 -- src/last_steps.rt:31:5
 loop-less : tie.Need-loop-smaller invariant-loop decreases-loop
@@ -113,7 +113,7 @@ loop-less c =
     let at_start = at-loop.before.before in
     let h = at_start.requires.1 in
     let w = apart h (at-loop.loop.invariant h) at-loop-test.loop-test.true in
-    parted-less h w at-parent-of.parent_of.ensures c.before.before.parent-of2.ensures
+    parted_less h w at-parent-of.parent_of.ensures c.before.before.parent-of2.ensures
 
 -- src/last_steps.rt:31:5
 loop-again : tie.Need-loop-preserved invariant-loop decreases-loop
@@ -121,11 +121,11 @@ loop-again c =
     let at-parent-of = c.before.before.before in
     let at-loop-test = at-parent-of.before in
     let at-loop = at-loop-test.before in
-    λ h. parted-on h (apart h (at-loop.loop.invariant h) at-loop-test.loop-test.true) at-parent-of.parent_of.ensures c.before.before.parent-of2.ensures
+    λ h. parted_on h (apart h (at-loop.loop.invariant h) at-loop-test.loop-test.true) at-parent-of.parent_of.ensures c.before.before.parent-of2.ensures
 
 -- src/last_steps.rt:25:1
 returns : tie.Need-returns invariant-loop decreases-loop
-returns c = record { told = λ h. parted-end h (c.before.loop.invariant h) c.loop-test.false }
+returns c = record { told = λ h. parted_end h (c.before.loop.invariant h) c.loop-test.false }
 
 pub precedes-spec : {M : Type 1} → statement M
 precedes-spec =

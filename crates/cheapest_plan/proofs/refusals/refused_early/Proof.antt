@@ -1,6 +1,6 @@
 -- `refused_early` gives the first number in order, each way out by a law of Refusing. Assumes nothing.
 use native.Mathlib.Omega.{arith}
-use Rattle.cheapest_plan.proofs.Refusing.{refused-tables, refused-variables, refused-bytes, refused-words, not_refused}
+use Rattle.cheapest_plan.proofs.Refusing.{refused_tables, refused_variables, refused-bytes, refused-words, not_refused}
 use borrow.Author.Rules.{rules}
 use Rattle.cheapest_plan.proofs.refusals.refused_early.Statement.{statement}
 use Rattle.cheapest_plan.proofs.refusals.refused_early.Tie as tie
@@ -15,13 +15,13 @@ check-requires c κs = search rules
 
 -- src/refusals.rt:33:9
 returns : tie.Need-returns
-returns c = refused-tables _ _ _ _ c.before.check.ensures c.if1.true
+returns c = refused_tables _ _ _ _ c.before.check.ensures c.if1.true
 
 -- src/refusals.rt:36:9
 returns-2 : tie.Need-returns-2
 returns-2 c =
     let at-check = c.before.before.before in
-    refused-variables _ _ _ _ at-check.check.ensures c.before.before.if1.false c.if2.true
+    refused_variables _ _ _ _ at-check.check.ensures c.before.before.if1.false c.if2.true
 
 -- src/refusals.rt:38:16
 cast-rows : tie.Need-overflow-cast-rows

@@ -1,5 +1,5 @@
 -- `compared` meets its contract: what was noted is taken, or the lists are compared, and that is noted. Assumes nothing.
-use Rattle.cheapest_plan.proofs.Comparing.{noted-before, pair_comparable, pair-verdict, noted-now}
+use Rattle.cheapest_plan.proofs.Comparing.{noted_before, pair_comparable, pair_verdict, noted_now}
 use borrow.Author.Rules.{rules}
 use Rattle.cheapest_plan.proofs.relax.compared.Statement.{statement}
 use Rattle.cheapest_plan.proofs.relax.compared.Tie as tie
@@ -13,7 +13,7 @@ slice-read-note c = search rules
 
 -- src/relax.rt:20:9
 returns : tie.Need-returns
-returns c = record { told = λ h. noted-before h c.if1.true; noted = λ h. h.noted }
+returns c = record { told = λ h. noted_before h c.if1.true; noted = λ h. h.noted }
 
 -- src/relax.rt:22:33
 mul-precedes : tie.Need-overflow-mul-precedes
@@ -66,8 +66,8 @@ returns-2 : tie.Need-returns-2
 returns-2 c =
     let found = c.before.precedes.ensures in
     record {
-      told = λ h. rw c.if2.true at (pair-verdict h found);
-      noted = λ h. noted-now h 2 (rw c.if2.true at (pair-verdict h found));
+      told = λ h. rw c.if2.true at (pair_verdict h found);
+      noted = λ h. noted_now h 2 (rw c.if2.true at (pair_verdict h found));
     }
 
 -- src/relax.rt:26:5
@@ -83,8 +83,8 @@ returns-3 : tie.Need-returns-3
 returns-3 c =
     let found = c.before.precedes.ensures in
     record {
-      told = λ h. rw c.if2.false at (pair-verdict h found);
-      noted = λ h. noted-now h 1 (rw c.if2.false at (pair-verdict h found));
+      told = λ h. rw c.if2.false at (pair_verdict h found);
+      noted = λ h. noted_now h 1 (rw c.if2.false at (pair_verdict h found));
     }
 
 pub compared-spec : {M : Type 1} → statement M

@@ -3,7 +3,7 @@ use Prim.Native.Nat.{◌+◌, ◌<◌}
 use lib.ListN.{get_or}
 use native.Mathlib.Omega.{arith}
 use mathlib.Core.Path.{sym, ◌∙◌}
-use Rattle.cheapest_plan.proofs.Relaxing.{by_key, key-cost, key-steps, old-parent, pairs, by-lists, noted-after}
+use Rattle.cheapest_plan.proofs.Relaxing.{by_key, key_cost, key_steps, old-parent, pairs, by-lists, noted-after}
 use borrow.Author.Rules.{rules}
 use Rattle.cheapest_plan.proofs.relax.judge.Statement.{statement}
 use Rattle.cheapest_plan.proofs.relax.judge.Tie as tie
@@ -88,7 +88,7 @@ parent-of-requires-2 c κs =
     let low : get_or a.words.now (a.n + a.t) 0 < 4294967296 = omega (arith, at-shared-slice-known.shared-slice-known.given (a.n + a.t)) in
     let tie-is = sym at-joint.joint.ensures ∙ at-if1.if1.false ∙ at-joint2.joint2.ensures in
     let pre = at_start.requires.1 in
-    omega (arith, (old-parent pre (key-cost pre low tie-is) (key-steps pre low tie-is)).last-is)
+    omega (arith, (old-parent pre (key_cost pre low tie-is) (key_steps pre low tie-is)).last-is)
 
 -- src/relax.rt:60:6
 compared-requires : tie.Need-compared-requires
@@ -104,7 +104,7 @@ compared-requires c κs =
     let low : get_or a.words.now (a.n + a.t) 0 < 4294967296 = omega (arith, at-shared-slice-known.shared-slice-known.given (a.n + a.t)) in
     let tie-is = sym at-joint.joint.ensures ∙ at-if1.if1.false ∙ at-joint2.joint2.ensures in
     let pre = at_start.requires.1 in
-    (at_start.requires.0, pairs pre (key-cost pre low tie-is) (key-steps pre low tie-is) at-parent-of.parent_of.ensures at-parent-of2.parent-of2.ensures)
+    (at_start.requires.0, pairs pre (key_cost pre low tie-is) (key_steps pre low tie-is) at-parent-of.parent_of.ensures at-parent-of2.parent-of2.ensures)
 
 -- src/relax.rt:42:1
 same_length : tie.Need-same-length
@@ -128,8 +128,8 @@ returns-2 c =
     let left = at-parent-of.parent_of.ensures in
     let right = at-parent-of2.parent-of2.ensures in
     record {
-      told = λ h. by-lists h (key-cost h low tie-is) (key-steps h low tie-is) left right found;
-      noted = λ h. noted-after h (key-cost h low tie-is) (key-steps h low tie-is) left right found;
+      told = λ h. by-lists h (key_cost h low tie-is) (key_steps h low tie-is) left right found;
+      noted = λ h. noted-after h (key_cost h low tie-is) (key_steps h low tie-is) left right found;
     }
 
 pub judge-spec : {M : Type 1} → statement M

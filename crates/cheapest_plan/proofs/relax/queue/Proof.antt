@@ -3,7 +3,7 @@ use native.Mathlib.Omega.{arith}
 use Prim.Native.Nat.{◌+◌}
 use mathlib.Core.Path.{◌∙◌}
 use lib.ListN.{length-set, set}
-use Rattle.cheapest_plan.proofs.Queueing.{length-stored, queue-roomy, queue-nearly, queued-now}
+use Rattle.cheapest_plan.proofs.Queueing.{length_stored, queue_roomy, queue_nearly, queued_now}
 use borrow.Author.Rules.{rules}
 use Rattle.cheapest_plan.proofs.relax.queue.Statement.{statement}
 use Rattle.cheapest_plan.proofs.relax.queue.Tie as tie
@@ -59,20 +59,20 @@ slice-write-words-3 c =
 raise-requires : tie.Need-raise-requires
 raise-requires c κs =
     let at_start = c.before.before in
-    (queue-roomy at_start.requires at_start.args.step, queue-nearly at_start.requires at_start.args.step)
+    (queue_roomy at_start.requires at_start.args.step, queue_nearly at_start.requires at_start.args.step)
 
 -- src/relax.rt:25:1
 same_length : tie.Need-same-length
 same_length c =
     let at_start = c.before.before.before.before.before in
     let a = at_start.args in
-    c.before.before.raise.auto.0 ∙ length-stored a.words.now a.n a.t a.cost a.steps a.step
+    c.before.before.raise.auto.0 ∙ length_stored a.words.now a.n a.t a.cost a.steps a.step
 
 -- src/relax.rt:25:1
 returns : tie.Need-returns
 returns c =
     let at_start = c.before.before.before.before.before in
-    queued-now at_start.requires at_start.args.step c.before.before.raise.ensures
+    queued_now at_start.requires at_start.args.step c.before.before.raise.ensures
 
 pub queue-spec : {M : Type 1} → statement M
 queue-spec =

@@ -1,5 +1,5 @@
 -- `relax` meets its contract: the list that stands there stays, or the new one comes. Assumes nothing.
-use Rattle.cheapest_plan.proofs.Relaxing.{relaxed-old, may-queue, relaxed-zeros, relaxed-new}
+use Rattle.cheapest_plan.proofs.Relaxing.{relaxed_old, may_queue, relaxed_zeros, relaxed_new}
 use borrow.Author.Rules.{rules}
 use Rattle.cheapest_plan.proofs.relax.relax.Statement.{statement}
 use Rattle.cheapest_plan.proofs.relax.relax.Tie as tie
@@ -24,7 +24,7 @@ same-length-2 c = search rules
 returns : tie.Need-returns
 returns c =
     let judged = c.before.before.before.judge.ensures in
-    record { zeros = record { stay = λ s l z. z }; told = λ h. relaxed-old h (rw c.if1.true at (judged.told h)) (judged.noted h) }
+    record { zeros = record { stay = λ s l z. z }; told = λ h. relaxed_old h (rw c.if1.true at (judged.told h)) (judged.noted h) }
 
 -- src/relax.rt:87:5
 queue-requires : tie.Need-queue-requires
@@ -32,7 +32,7 @@ queue-requires c κs =
     let at-if1 = c.before in
     let at-judge = at-if1.before.before.before in
     let at_start = at-judge.before.before.before.before.before in
-    may-queue at_start.requires.1 at_start.requires.0 (rw at-if1.if1.false at (at-judge.judge.ensures.told at_start.requires.1))
+    may_queue at_start.requires.1 at_start.requires.0 (rw at-if1.if1.false at (at-judge.judge.ensures.told at_start.requires.1))
 
 -- src/relax.rt:72:1
 same-length-3 : tie.Need-same-length-3
@@ -54,8 +54,8 @@ returns-2 c =
     let queued = at-queue.queue.ensures in
     let comes = at-if1.if1.false in
     record {
-      zeros = relaxed-zeros pre queued (rw comes at (judged.told pre));
-      told = λ h. relaxed-new h queued (rw comes at (judged.told h)) (judged.noted h);
+      zeros = relaxed_zeros pre queued (rw comes at (judged.told pre));
+      told = λ h. relaxed_new h queued (rw comes at (judged.told h)) (judged.noted h);
     }
 
 pub relax-spec : {M : Type 1} → statement M

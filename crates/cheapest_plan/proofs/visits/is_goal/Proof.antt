@@ -1,5 +1,5 @@
 -- `is_goal` meets its contract: the formulas are evaluated in the state of the code. Assumes nothing.
-use Rattle.cheapest_plan.proofs.Visiting.{goal-valuable, goal-found}
+use Rattle.cheapest_plan.proofs.Visiting.{goal_valuable, goal_found}
 use borrow.Author.Rules.{rules}
 use Rattle.cheapest_plan.proofs.visits.is_goal.Statement.{statement}
 use Rattle.cheapest_plan.proofs.visits.is_goal.Tie as tie
@@ -21,7 +21,7 @@ evaluate-requires : tie.Need-evaluate-requires
 evaluate-requires c κs =
     let at-write-state = c.before.before.before.before.before in
     let at_start = at-write-state.before.before.before.before.before in
-    goal-valuable at_start.requires at_start.args.s at-write-state.write-state.ensures
+    goal_valuable at_start.requires at_start.args.s at-write-state.write-state.ensures
 
 -- src/visits.rt:29:16
 cast-goal : tie.Need-overflow-cast-goal
@@ -45,7 +45,7 @@ returns c =
     let at-evaluate = c.before.before.before.before in
     let at-write-state = at-evaluate.before.before.before.before.before.before in
     let at_start = at-write-state.before.before.before.before.before in
-    goal-found at_start.requires at_start.args.s at-write-state.write-state.ensures at-evaluate.evaluate.ensures
+    goal_found at_start.requires at_start.args.s at-write-state.write-state.ensures at-evaluate.evaluate.ensures
 
 pub is-goal-spec : {M : Type 1} → statement M
 is-goal-spec =

@@ -6,7 +6,7 @@ use Rattle.state_queue.specs.Inner.Queue.{winner}
 use Rattle.state_queue.proofs.Playing.{roomy_on}
 use Rattle.cheapest_plan.specs.Inner.Visits.{Known, Searchable}
 use borrow.Author.Rules.{rules}
-use Rattle.cheapest_plan.proofs.Rounds.{untaken, state_below, goal_ready_on, round_less, begun-known, visitable, round-known, round-goal, search-none}
+use Rattle.cheapest_plan.proofs.Rounds.{untaken, state_below, goal_ready_on, round_less, begun_known, visitable, round-known, round-goal, search_none}
 use Rattle.cheapest_plan.proofs.visits.search.Statement.{statement}
 use Rattle.cheapest_plan.proofs.visits.search.Tie as tie
 use Rattle.cheapest_plan.proofs.visits.search.Reads as reads
@@ -46,7 +46,7 @@ winner-requires c κs =
 loop-holds : tie.Need-loop-init invariant-loop decreases-loop
 loop-holds c =
     let at-begin = c.before.before.before.before in
-    (refl, refl, refl, c.winner.ensures, λ v. begun-known v at-begin.begin.ensures, refl)
+    (refl, refl, refl, c.winner.ensures, λ v. begun_known v at-begin.begin.ensures, refl)
 
 -- src/visits.rt:92:21
 mul-is-queued : tie.Need-overflow-mul-is-queued invariant-loop decreases-loop
@@ -235,7 +235,7 @@ returns-2 c =
     let long = inv.1 ∙ at-begin.begin.auto.0 in
     let roomy = roomy_on {words = at.words} pre.1.0.0 long in
     let searchable = pre.1.1 in
-    record { told = λ v. search-none v (inv.4 v) inv.3 roomy (sym c.before.is_queued.ensures ∙ c.if1.false) }
+    record { told = λ v. search_none v (inv.4 v) inv.3 roomy (sym c.before.is_queued.ensures ∙ c.if1.false) }
 
 pub search-spec : {M : Type 1} → statement M
 search-spec =

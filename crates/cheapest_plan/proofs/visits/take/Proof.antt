@@ -2,7 +2,7 @@
 use mathlib.Core.Path.{◌∙◌}
 use lib.ListN.{length-set}
 use Rattle.state_queue.proofs.Playing.{roomy_on}
-use Rattle.cheapest_plan.proofs.Visiting.{take-waits, taken-now}
+use Rattle.cheapest_plan.proofs.Visiting.{take_waits, taken_now}
 use borrow.Author.Rules.{rules}
 use Rattle.cheapest_plan.proofs.visits.take.Statement.{statement}
 use Rattle.cheapest_plan.proofs.visits.take.Tie as tie
@@ -22,7 +22,7 @@ slice-write-words c = search rules
 lower-requires : tie.Need-lower-requires
 lower-requires c κs =
     let at_start = c.before.before in
-    (roomy_on at_start.requires.0 (length-set at_start.args.words.now at_start.args.s 0), take-waits at_start.requires.0 at_start.requires.1 at_start.requires.2)
+    (roomy_on at_start.requires.0 (length-set at_start.args.words.now at_start.args.s 0), take_waits at_start.requires.0 at_start.requires.1 at_start.requires.2)
 
 -- src/visits.rt:34:1
 same_length : tie.Need-same-length
@@ -34,7 +34,7 @@ same_length c =
 returns : tie.Need-returns
 returns c =
     let at_start = c.before.before.before.before.before in
-    taken-now at_start.requires.0 at_start.requires.1 at_start.requires.2 c.before.before.lower.ensures
+    taken_now at_start.requires.0 at_start.requires.1 at_start.requires.2 c.before.before.lower.ensures
 
 pub take_spec : {M : Type 1} → statement M
 take_spec = tie.close (tie.spec mul_words slice-write-words lower-requires same_length returns)

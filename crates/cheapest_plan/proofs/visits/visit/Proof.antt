@@ -6,7 +6,7 @@ use mathlib.Core.Bool.{false≢true}
 use lib.ListN.{length}
 use Rattle.state_queue.proofs.Playing.{roomy_on}
 use Rattle.cheapest_plan.proofs.Expanding.{zeros_none, zeros_on}
-use Rattle.cheapest_plan.proofs.Visiting.{take_zeros, first_below, visited-goal, visit_stage, visit-expandable, visited-on, visit_maskable}
+use Rattle.cheapest_plan.proofs.Visiting.{take_zeros, first_below, visited_goal, visit_stage, visit-expandable, visited-on, visit_maskable}
 use borrow.Author.Rules.{rules}
 use Rattle.cheapest_plan.proofs.visits.visit.Statement.{statement}
 use Rattle.cheapest_plan.proofs.visits.visit.Tie as tie
@@ -37,7 +37,7 @@ returns c =
     record {
       zeros = zeros_none;
       gone = λ e. absurd (false≢true (sym e));
-      told = λ v. visited-goal v at_start.requires.1.0.0 at-is-goal.is-goal.ensures c.if1.true;
+      told = λ v. visited_goal v at_start.requires.1.0.0 at-is-goal.is-goal.ensures c.if1.true;
     }
 
 -- src/visits.rt:63:16

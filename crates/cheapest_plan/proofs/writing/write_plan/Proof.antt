@@ -1,7 +1,7 @@
 -- `write_plan` meets its contract: the list goes to its place from its end. Assumes nothing.
 use native.Mathlib.Omega.{arith}
 use Rattle.cheapest_plan.specs.Inner.Visits.{Writable}
-use Rattle.cheapest_plan.proofs.Backwards.{Back, Aside, aside_begin, aside_on, back-begin, LastStep, last_step}
+use Rattle.cheapest_plan.proofs.Backwards.{Back, Aside, aside_begin, aside_on, back_begin, LastStep, last_step}
 use borrow.Author.Rules.{rules}
 use Rattle.cheapest_plan.proofs.writing.write_plan.Statement.{statement}
 use Rattle.cheapest_plan.proofs.writing.write_plan.Tie as tie
@@ -21,7 +21,7 @@ decreases-loop words n state steps plan₀ s₀ k₀ plan s k = k
 loop-holds : tie.Need-loop-init invariant-loop decreases-loop
 loop-holds c =
     let at_start = c.before.before in
-    (aside_begin at_start.args.steps at_start.args.plan.now, λ h. back-begin h at_start.args.plan.now)
+    (aside_begin at_start.args.steps at_start.args.plan.now, λ h. back_begin h at_start.args.plan.now)
 
 -- src/writing.rt:17:9
 sub-k : tie.Need-overflow-sub-k invariant-loop decreases-loop

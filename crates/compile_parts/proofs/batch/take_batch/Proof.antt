@@ -8,7 +8,7 @@ use lib.ListN.{length}
 use Rattle.formula_builder.specs.Inner.Held.{store}
 use Rattle.variable_changes.specs.Inner.Stands.{Leaves}
 use Rattle.building.specs.Inner.Taken.{size_at, Taken}
-use Rattle.compile_parts.proofs.Batched.{still-taken, next-asks}
+use Rattle.compile_parts.proofs.Batched.{still_taken, next_asks}
 
 abbrev invariant-loop : tie.invariant-loop
 invariant-loop counts formulas effects operators first notes₀ built₀ originals₀ scratch₀ records₀ end at₀ notes built originals scratch records at =
@@ -35,7 +35,7 @@ loop-holds c =
     let at-begin-next = c.before.before.before.before.before.before.before.before in
     let at_pre = at-begin-next.before.before.before.before.before.before.before.before.before.before.before.before.before.before in
     let begun = at-begin-next.begin-next.ensures in
-    (omega (arith, begun.more), refl, refl, refl, refl, refl, still-taken at_pre.requires begun, begun.along.leaves)
+    (omega (arith, begun.more), refl, refl, refl, refl, refl, still_taken at_pre.requires begun, begun.along.leaves)
 
 take-operator-requires : tie.Need-take-operator-requires invariant-loop decreases-loop
 take-operator-requires c κs =
@@ -44,7 +44,7 @@ take-operator-requires c κs =
     let at-begin-next = at-loop.before.before.before.before.before.before.before.before.before in
     let at_pre = at-begin-next.before.before.before.before.before.before.before.before.before.before.before.before.before.before in
     let so_far = at-loop.loop.invariant in
-    next-asks at_pre.requires so_far.7 (omega (arith, at-if1.if1.true, at-begin-next.begin-next.ensures.most)) so_far.5 so_far.6
+    next_asks at_pre.requires so_far.7 (omega (arith, at-if1.if1.true, at-begin-next.begin-next.ensures.most)) so_far.5 so_far.6
 
 loop-less : tie.Need-loop-smaller invariant-loop decreases-loop
 loop-less c =

@@ -10,10 +10,10 @@ use Rattle.compile_parts.proofs.last.no_room.Reads as no-room-reads
 use Rattle.rule_writer.proofs.write_initial.Reads as write-initial-reads
 use native.Mathlib.Omega.{arith}
 use mathlib.Core.Path.{refl}
-use Rattle.compile_parts.proofs.Written.{nothing-built, rules-over, all-written}
+use Rattle.compile_parts.proofs.Written.{nothing_built, rules_over, all_written}
 
 returns : tie.Need-returns
-returns c = nothing-built c.before.if1.true c.no_room.ensures
+returns c = nothing_built c.before.if1.true c.no_room.ensures
 
 assemble-operators-requires : tie.Need-assemble-operators-requires
 assemble-operators-requires c κs =
@@ -23,7 +23,7 @@ assemble-operators-requires c κs =
     (stands.assembles, stands.twinned)
 
 returns-2 : tie.Need-returns-2
-returns-2 c = rules-over c.before.before.before.before.before.before.assemble-operators.ensures c.before.if2.true c.no-room2.ensures
+returns-2 c = rules_over c.before.before.before.before.before.before.assemble_operators.ensures c.before.if2.true c.no-room2.ensures
 
 write-initial-requires : tie.Need-write-initial-requires
 write-initial-requires c κs =
@@ -75,7 +75,7 @@ cast-t28 c =
     let at-if1 = at-assemble-operators.before.before.before.before in
     let at_pre = at-if1.before.before.before.before.before.before.before.before.before.before in
     omega
-    (arith, at-assemble-operators.assemble-operators.ensures.within at-if2.if2.false, (at_pre.requires.stands at-if1.if1.false).assembles.rows_limit)
+    (arith, at-assemble-operators.assemble_operators.ensures.within at-if2.if2.false, (at_pre.requires.stands at-if1.if1.false).assembles.rows_limit)
 
 returns-3 : tie.Need-returns-3
 returns-3 c =
@@ -84,8 +84,8 @@ returns-3 c =
     let at-if2 = at-write-initial.before.before in
     let at-assemble-operators = at-if2.before.before.before.before.before in
     let at-if1 = at-assemble-operators.before.before.before.before in
-    let rules = at-assemble-operators.assemble-operators.ensures in
-    all-written refl
+    let rules = at-assemble-operators.assemble_operators.ensures in
+    all_written refl
     (record {
       whole = at-if1.if1.false;
       holding = rules.done at-if2.if2.false;

@@ -11,7 +11,7 @@ use Rattle.atom_sets.specs.Inner.Sets.{sets_end}
 use Rattle.variable_changes.specs.Inner.Stands.{Leaves}
 use Rattle.variable_changes.proofs.Standing.{leaves_same}
 use Rattle.building.specs.Inner.Taken.{size_at, Taken}
-use Rattle.compile_parts.proofs.Asked.{finds, finds-first, known, none_kept, noted, first_taken, next-batch, last-asks, all-built}
+use Rattle.compile_parts.proofs.Asked.{finds, finds_first, known, none_kept, noted, first_taken, next_batch, last_asks, all_built}
 
 abbrev invariant-loop : tie.invariant-loop
 invariant-loop counts formulas effects operators originals₀ scratch₀ notes₀ built₀ records₀ frame count first at₀ originals scratch notes built records at =
@@ -37,7 +37,7 @@ find-sets-requires c κs =
 find-first-requires : tie.Need-find-first-requires invariant-loop decreases-loop
 find-first-requires c κs =
     let at_pre = c.before.before.before.before.before.before.before.before.before.before.before.before.before.before in
-    finds-first at_pre.requires
+    finds_first at_pre.requires
 
 begin-requires : tie.Need-begin-requires invariant-loop decreases-loop
 begin-requires c κs =
@@ -73,7 +73,7 @@ take-batch-requires c κs =
     let so_far = at-loop.loop.invariant in
     let asked = at_pre.requires in
     let firsts = at-find-first.find_first in
-    next-batch asked (known asked firsts.ensures firsts.auto.1.1.1.1.0) at-if1.if1.true (so_far.3 ∙ at-find-sets.find-sets.auto.1.1.0)
+    next_batch asked (known asked firsts.ensures firsts.auto.1.1.1.1.0) at-if1.if1.true (so_far.3 ∙ at-find-sets.find-sets.auto.1.1.0)
     so_far.5 so_far.6 so_far.7 so_far.8
 
 loop-less : tie.Need-loop-smaller invariant-loop decreases-loop
@@ -107,7 +107,7 @@ take-goal-requires c κs =
     at-loop.before.before.before.before.before.before.before.before.before.before.before.before.before.before.before.before.before.before.before.before.before
     in
     let so_far = at-loop.loop.invariant in
-    last-asks at_pre.pre (omega (arith, so_far.0, at-if1.if1.false)) so_far.6
+    last_asks at_pre.pre (omega (arith, so_far.0, at-if1.if1.false)) so_far.6
 
 same_length : tie.Need-same-length invariant-loop decreases-loop
 same_length c =
@@ -149,7 +149,7 @@ returns c =
     in
     let so_far = at-loop.loop.invariant in
     let goal = at-take-goal.take-goal in
-    all-built at_pre.pre (omega (arith, so_far.0, at-if1.if1.false)) so_far.6 goal.auto.1.1.1.1.1.1.0 goal.ensures
+    all_built at_pre.pre (omega (arith, so_far.0, at-if1.if1.false)) so_far.6 goal.auto.1.1.1.1.1.1.0 goal.ensures
 
 pub build-spec : {M : Type 1} → statement M
 build-spec =

@@ -3,7 +3,7 @@ use mathlib.Core.Path.{ap, ◌∙◌}
 use borrow.Author.Rules.{rules}
 use Rattle.task_file.proofs.ReadWays.{bytes_from}
 use Rattle.entry_tables.specs.Inner.Answers.{refused_number}
-use Rattle.compile_text.proofs.TextWays.{task_read, file-refused, text_refused, text_read}
+use Rattle.compile_text.proofs.TextWays.{task_read, file_refused, text_refused, text_read}
 use Rattle.compile_text.proofs.text.text_through.Statement.{statement}
 use Rattle.compile_text.proofs.text.text_through.Tie as tie
 
@@ -13,7 +13,7 @@ returns c =
     let at_read = at-enum-told.before.before.before.before.before.before.before.before.before.before.before.before in
     let at-args = at_read.before.before.before.before.before.before.before.before.before.before.before.before in
     let a = at-args.args in text_refused a.file.now
-    (file-refused a.file.now a.initial.now a.twins.now a.formulas.now a.effects.now a.operators.now at-args.requires
+    (file_refused a.file.now a.initial.now a.twins.now a.formulas.now a.effects.now a.operators.now at-args.requires
     at_read.read.ensures at-enum-told.enum_told.given.1)
     (c.before.before.not_read.ensures ∙ ap refused_number at-enum-told.enum_told.given.1) c.number-line.ensures
 

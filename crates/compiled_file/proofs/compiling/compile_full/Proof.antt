@@ -2,7 +2,7 @@
 use lib.ListN.{length}
 use Rattle.task.specs.Table.{lent}
 use Rattle.entry_tables.specs.Own.{own_room}
-use Rattle.compiled_file.proofs.CompileWays.{full-given}
+use Rattle.compiled_file.proofs.CompileWays.{full_given}
 use borrow.Author.Rules.{rules}
 use Rattle.compiled_file.proofs.compiling.compile_full.Statement.{statement}
 use Rattle.compiled_file.proofs.compiling.compile_full.Tie as tie
@@ -12,7 +12,7 @@ unfolding own_room
 returns c =
     let at-compile-through = c.before.before.before.before.before.before.before.before.before.before in
     let at-args = at-compile-through.before.before.before.before.before.before.before.before.before.before.before.before.before.before.before.before in
-    let a = at-args.args in full-given (lent a.head a.initial.now a.twins.now a.formulas.now a.effects.now a.operators.now)
+    let a = at-args.args in full_given (lent a.head a.initial.now a.twins.now a.formulas.now a.effects.now a.operators.now)
     at-args.requires (length a.out.now) (length a.result.now) at-compile-through.compile_through.ensures
 
 pub compile-full-spec : {M : Type 1} → statement M

@@ -6,7 +6,7 @@ use Rattle.compiler.specs.Left.{tables, room_of}
 use Rattle.compiler.specs.declared.CompileAnswer.{CompileAnswer}
 use Rattle.compiler.specs.Left.{answer_of}
 use Rattle.entry_tables.specs.Inner.Answers.{refused_compile}
-use Rattle.compiled_file.proofs.CompileWays.{no-task-compiled, compiled-kept, compiled-given}
+use Rattle.compiled_file.proofs.CompileWays.{no_task_compiled, compiled_kept, compiled_given}
 use borrow.Author.Rules.{rules}
 use Rattle.compiled_file.proofs.compiling.compile_through.Statement.{statement}
 use Rattle.compiled_file.proofs.compiling.compile_through.Tie as tie
@@ -18,7 +18,7 @@ returns c =
     let at-enum-told = at-refused.before in
     let at-compile = at-enum-told.before.before.before.before.before.before.before.before.before.before.before.before.before.before in
     let at-args = at-compile.before.before.before.before.before.before.before.before.before.before.before.before.before.before.before.before.before.before.before.before in
-    let a = at-args.args in no-task-compiled (lent a.head a.initial.now a.twins.now a.formulas.now a.effects.now a.operators.now)
+    let a = at-args.args in no_task_compiled (lent a.head a.initial.now a.twins.now a.formulas.now a.effects.now a.operators.now)
     (room_of (tables a.values.now a.originals.now a.table.now a.rules.now a.written.now a.scratch.now)) at-compile.compile.ensures
     (length a.out.now) (length a.result.now) at-enum-told.enum_told.given.1
     (at-refused.refused.ensures ∙ ap (λ (x : CompileAnswer). refused_compile (answer_of x)) at-enum-told.enum_told.given.1) at-refuse.refuse.ensures
@@ -28,7 +28,7 @@ give-file-requires c κs =
     let at-r = c.before.before.before.before.before.before.before.before in
     let at-compile = at-r.before.before.before.before.before.before.before.before.before.before.before.before.before.before in
     let at-args = at-compile.before.before.before.before.before.before.before.before.before.before.before.before.before.before.before.before.before.before.before.before in
-    let a = at-args.args in compiled-kept (lent a.head a.initial.now a.twins.now a.formulas.now a.effects.now a.operators.now)
+    let a = at-args.args in compiled_kept (lent a.head a.initial.now a.twins.now a.formulas.now a.effects.now a.operators.now)
     (room_of (tables a.values.now a.originals.now a.table.now a.rules.now a.written.now a.scratch.now)) at-compile.compile.ensures
     at-r.r.given.1
 
@@ -38,7 +38,7 @@ returns-2 c =
     let at-r = at-give-file.before.before.before.before.before.before.before.before.before in
     let at-compile = at-r.before.before.before.before.before.before.before.before.before.before.before.before.before.before in
     let at-args = at-compile.before.before.before.before.before.before.before.before.before.before.before.before.before.before.before.before.before.before.before.before in
-    let a = at-args.args in compiled-given (lent a.head a.initial.now a.twins.now a.formulas.now a.effects.now a.operators.now)
+    let a = at-args.args in compiled_given (lent a.head a.initial.now a.twins.now a.formulas.now a.effects.now a.operators.now)
     (room_of (tables a.values.now a.originals.now a.table.now a.rules.now a.written.now a.scratch.now)) at-compile.compile.ensures
     at-r.r.given.1 (length a.out.now) (length a.result.now) at-give-file.give-file.ensures
 

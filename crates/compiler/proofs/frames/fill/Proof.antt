@@ -9,7 +9,7 @@ use Rattle.compiler.proofs.frames.fill_large.Reads as fill-large-reads
 use Rattle.compiler.proofs.sizes.fewer_rows.Reads as fewer-rows-reads
 use Rattle.compiler.proofs.sizes.is_small.Reads as is-small-reads
 use mathlib.Core.Path.{◌∙◌}
-use Rattle.compiler.proofs.Tried.{small-asks, tried, large-asks, filled-again}
+use Rattle.compiler.proofs.Tried.{small_asks, tried, large-asks, filled-again}
 
 fill-small-requires : tie.Need-fill-small-requires
 fill-small-requires c κs =
@@ -17,7 +17,7 @@ fill-small-requires c κs =
     let at-if1 = at-fewer-rows.before in
     let at-is-small = at-if1.before in
     let at_pre = at-is-small.before.before.before.before.before.before.before.before.before.before.before in
-    small-asks at-fewer-rows.fewer-rows.ensures at-is-small.is-small.ensures at-if1.if1.true at_pre.requires
+    small_asks at-fewer-rows.fewer-rows.ensures at-is-small.is-small.ensures at-if1.if1.true at_pre.requires
 
 fill-large-requires : tie.Need-fill-large-requires
 fill-large-requires c κs =

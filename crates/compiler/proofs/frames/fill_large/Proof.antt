@@ -10,22 +10,22 @@ use Rattle.compile_parts.proofs.no_room.Reads as no-room-reads
 use Rattle.compiler.proofs.clear.clear_all.Reads as clear-all-reads
 use mathlib.Core.Path.{sym, ◌∙◌}
 use mathlib.Core.Bool.{true≢false}
-use Rattle.compiler.proofs.Filled.{finish-asks, filled, misfits}
-use Rattle.compiler.proofs.Owned.{owns-large}
+use Rattle.compiler.proofs.Filled.{finish_asks, filled, misfits}
+use Rattle.compiler.proofs.Owned.{owns_large}
 use Rattle.compiler.proofs.Cleared.{as_long}
-use Rattle.compiler.proofs.Tried.{tried-over, tried-done}
+use Rattle.compiler.proofs.Tried.{tried_over, tried_done}
 
 build-requires : tie.Need-build-requires
 build-requires c κs =
     let at_pre = c.before.before.before.before.before.before.before.before.before.before.before.before.before.before.before in
-    owns-large at_pre.requires.begins
+    owns_large at_pre.requires.begins
 
 finish-requires : tie.Need-finish-requires
 finish-requires c κs =
     let at-build = c.before.before.before.before.before.before.before.before.before.before.before.before.before.before in
     let at_pre = at-build.before.before.before.before.before.before.before.before.before.before.before.before.before.before.before.before in
     let whole = at-build.build in
-    finish-asks at_pre.requires.begins whole.ensures whole.auto.1.1.1.1.1.1.1.1.0
+    finish_asks at_pre.requires.begins whole.ensures whole.auto.1.1.1.1.1.1.1.1.0
 
 same_length : tie.Need-same-length
 same_length c =
@@ -75,7 +75,7 @@ returns c =
     let long = as_long last.auto.1.1.1.1.1.1.1.0 whole.auto.1.1.1.1.0 last.auto.1.1.1.1.1.1.1.1.0
     last.auto.1.1.1.1.1.1.1.1.1.0 last.auto.1.1.1.1.1.1.1.1.1.1.0 whole.auto.1.1.1.1.1.0 in
     record {
-      tries = tried-over at_pre.requires.begins long at-clear-all.clear-all.ensures c.no_room.ensures;
+      tries = tried_over at_pre.requires.begins long at-clear-all.clear-all.ensures c.no_room.ensures;
       misfit = λ _. misfits at_pre.requires.begins whole.ensures last.ensures at_pre.requires.allows at-if1.if1.true;
     }
 
@@ -109,7 +109,7 @@ returns-2 c =
     let whole = at-build.build in
     let last = at-finish.finish in
     record {
-      tries = tried-done c.if1.false
+      tries = tried_done c.if1.false
           (filled at_pre.requires.begins whole.ensures last.ensures whole.auto.1.1.1.1.0 last.auto.1.1.1.1.1.1.1.1.1.0
           last.auto.1.1.1.1.1.1.1.1.1.1.0);
       misfit = λ q. absurd (true≢false (sym q ∙ c.if1.false));

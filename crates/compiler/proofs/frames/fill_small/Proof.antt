@@ -9,22 +9,22 @@ use Rattle.compile_parts.proofs.finish.Reads as finish-reads
 use Rattle.compile_parts.proofs.no_room.Reads as no-room-reads
 use Rattle.compiler.proofs.clear.clear_all.Reads as clear-all-reads
 use mathlib.Core.Path.{◌∙◌}
-use Rattle.compiler.proofs.Filled.{finish-asks, filled}
-use Rattle.compiler.proofs.Owned.{owns-small}
+use Rattle.compiler.proofs.Filled.{finish_asks, filled}
+use Rattle.compiler.proofs.Owned.{owns_small}
 use Rattle.compiler.proofs.Cleared.{as_long}
-use Rattle.compiler.proofs.Tried.{tried-over, tried-done}
+use Rattle.compiler.proofs.Tried.{tried_over, tried_done}
 
 build-requires : tie.Need-build-requires
 build-requires c κs =
     let at_pre = c.before.before.before.before.before.before.before.before.before.before.before.before.before.before.before in
-    owns-small at_pre.requires
+    owns_small at_pre.requires
 
 finish-requires : tie.Need-finish-requires
 finish-requires c κs =
     let at-build = c.before.before.before.before.before.before.before.before.before.before.before.before.before.before in
     let at_pre = at-build.before.before.before.before.before.before.before.before.before.before.before.before.before.before.before.before in
     let whole = at-build.build in
-    finish-asks at_pre.requires.begins whole.ensures whole.auto.1.1.1.1.1.1.1.1.0
+    finish_asks at_pre.requires.begins whole.ensures whole.auto.1.1.1.1.1.1.1.1.0
 
 same_length : tie.Need-same-length
 same_length c =
@@ -72,7 +72,7 @@ returns c =
     let last = at-finish.finish in
     let long = as_long last.auto.1.1.1.1.1.1.1.0 whole.auto.1.1.1.1.0 last.auto.1.1.1.1.1.1.1.1.0
     last.auto.1.1.1.1.1.1.1.1.1.0 last.auto.1.1.1.1.1.1.1.1.1.1.0 whole.auto.1.1.1.1.1.0 in
-    tried-over at_pre.requires.begins long at-clear-all.clear-all.ensures c.no_room.ensures
+    tried_over at_pre.requires.begins long at-clear-all.clear-all.ensures c.no_room.ensures
 
 same-length-7 : tie.Need-same-length-7
 same-length-7 c = c.before.before.before.before.before.before.before.before.before.finish.auto.1.1.1.1.1.1.1.0
@@ -103,7 +103,7 @@ returns-2 c =
     let at_pre = at-build.before.before.before.before.before.before.before.before.before.before.before.before.before.before.before.before in
     let whole = at-build.build in
     let last = at-finish.finish in
-    tried-done c.if1.false
+    tried_done c.if1.false
     (filled at_pre.requires.begins whole.ensures last.ensures whole.auto.1.1.1.1.0 last.auto.1.1.1.1.1.1.1.1.1.0
     last.auto.1.1.1.1.1.1.1.1.1.1.0)
 

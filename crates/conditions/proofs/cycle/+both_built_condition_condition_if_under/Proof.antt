@@ -33,10 +33,10 @@ use borrow.Author.Tests.{eq-eqb, ne_eqb}
 use native.Mathlib.Omega.{arith}
 use mathlib.Core.Path.{sym, ◌∙◌}
 use Rattle.conditions.proofs.Notes.{small_row}
-use Rattle.conditions.proofs.Memos.{asks-next, conditions_kept}
-use Rattle.conditions.proofs.Cases.{lacks_framed, kept-asks, in-set, answers-known, answers-lacking, answers-atom, composed, is-both, is-under}
-use Rattle.conditions.proofs.Cases.{effects-lower, left-asks, left-full, right-asks, right-full, left_false, right_false, both-join-asks, both-done}
-use Rattle.conditions.proofs.Cases.{inner-lower, inner-asks, inner-full, inner-false, image-asks, image-full, under-join-asks, under-done}
+use Rattle.conditions.proofs.Memos.{asks_next, conditions_kept}
+use Rattle.conditions.proofs.Cases.{lacks_framed, kept_asks, in_set, answers_known, answers_lacking, answers_atom, composed, is_both, is_under}
+use Rattle.conditions.proofs.Cases.{effects_lower, left_asks, left_full, right-asks, right_full, left_false, right_false, both-join-asks, both-done}
+use Rattle.conditions.proofs.Cases.{inner_lower, inner_asks, inner-full, inner-false, image-asks, image-full, under-join-asks, under-done}
 
 -- a condition's row is above the rows that it names
 abbrev μ-both : Measures 9 both-kinds.ps ℕ
@@ -152,8 +152,8 @@ module _ (t : ℕ) where
   both-condition-if-requires c κs =
       let at_row = c.before.before.before.before.before.before.before in
       let start = at_row.before.before.before.before.before.before.before in (
-        omega (arith, start.requires.0, (effects-lower start.requires.1.0 start.requires.1.1 at_row.read-row.result at_row.read-row.ensures).0),
-        left-asks start.requires.1.0 start.requires.1.1 at_row.read-row.result at_row.read-row.ensures,
+        omega (arith, start.requires.0, (effects_lower start.requires.1.0 start.requires.1.1 at_row.read-row.result at_row.read-row.ensures).0),
+        left_asks start.requires.1.0 start.requires.1.1 at_row.read-row.result at_row.read-row.ensures,
       )
 
   both-returns : both-lts.Need-returns both-calls both_at both.Post
@@ -161,7 +161,7 @@ module _ (t : ℕ) where
       let at_left = c.before.before.before.before.before.before.before.before.before in
       let at_row = at_left.before.before.before.before.before.before.before.before in
       let start = at_row.before.before.before.before.before.before.before in
-      left-full start.requires.1.0 start.requires.1.1 at_row.read-row.result at_row.read-row.ensures at_left.condition-if.ensures
+      left_full start.requires.1.0 start.requires.1.1 at_row.read-row.result at_row.read-row.ensures at_left.condition-if.ensures
       (eq-eqb _ 65535 c.if1.true)
 
   both-condition-if-requires-2 : both-lts.Need-condition-if-requires-2 both-calls both_at both.Post
@@ -170,7 +170,7 @@ module _ (t : ℕ) where
       let at_left = at-if1.before.before.before.before.before.before.before.before.before in
       let at_row = at_left.before.before.before.before.before.before.before.before in
       let start = at_row.before.before.before.before.before.before.before in (
-        omega (arith, start.requires.0, (effects-lower start.requires.1.0 start.requires.1.1 at_row.read-row.result at_row.read-row.ensures).1),
+        omega (arith, start.requires.0, (effects_lower start.requires.1.0 start.requires.1.1 at_row.read-row.result at_row.read-row.ensures).1),
         right-asks start.requires.1.0 start.requires.1.1 at_row.read-row.result at_row.read-row.ensures at_left.condition-if.ensures (ne_eqb _ 65535 at-if1.if1.false) at_left.condition-if.auto.1.1.1.1.1.1.1.1.1.1.0,
       )
 
@@ -181,7 +181,7 @@ module _ (t : ℕ) where
       let at_left = at-if1.before.before.before.before.before.before.before.before.before in
       let at_row = at_left.before.before.before.before.before.before.before.before in
       let start = at_row.before.before.before.before.before.before.before in
-      right-full start.requires.1.0 start.requires.1.1 at_row.read-row.result at_row.read-row.ensures at_left.condition-if.ensures
+      right_full start.requires.1.0 start.requires.1.1 at_row.read-row.result at_row.read-row.ensures at_left.condition-if.ensures
       (ne_eqb _ 65535 at-if1.if1.false) at_right.condition-if2.ensures (eq-eqb _ 65535 c.if2.true)
 
   both-returns-3 : both-lts.Need-returns-3 both-calls both_at both.Post
@@ -272,7 +272,7 @@ module _ (t : ℕ) where
         omega (arith, start.requires.0),
         (
           start.requires.1.0,
-          is-both start.requires.1.0 at_row.read-row.result at_row.read-row.ensures at-if1.if1.true,
+          is_both start.requires.1.0 at_row.read-row.result at_row.read-row.ensures at-if1.if1.true,
         ),
       )
 
@@ -289,7 +289,7 @@ module _ (t : ℕ) where
         omega (arith, start.requires.0),
         (
           start.requires.1.0,
-          is-under start.requires.1.0 at_row.read-row.result at_row.read-row.ensures start.requires.1.1 at-if1.if1.false,
+          is_under start.requires.1.0 at_row.read-row.result at_row.read-row.ensures start.requires.1.1 at-if1.if1.false,
         ),
       )
 
@@ -302,13 +302,13 @@ module _ (t : ℕ) where
   condition-recall-requires : condition-lts.Need-recall-requires condition-calls condition_at condition.Post
   condition-recall-requires c κs =
       let start = c.before.before.before.before.before.before.before.before in
-      kept-asks start.requires.1
+      kept_asks start.requires.1
 
   condition-returns : condition-lts.Need-returns condition-calls condition_at condition.Post
   condition-returns c =
       let at-recall = c.before in
       let start = at-recall.before.before.before.before.before.before.before.before.before in
-      answers-known start.requires.1 at-recall.recall.ensures c.if1.true
+      answers_known start.requires.1 at-recall.recall.ensures c.if1.true
 
   condition-read-row-requires : condition-lts.Need-read-row-requires condition-calls condition_at condition.Post
   condition-read-row-requires c κs =
@@ -320,7 +320,7 @@ module _ (t : ℕ) where
       let at-if2 = c.before in
       let at_row = at-if2.before.before in
       let start = at_row.before.before.before.before.before.before.before.before.before.before.before in
-      answers-atom start.requires.1 at_row.read-row.result at_row.read-row.ensures at-if2.if2.true c.atom.ensures
+      answers_atom start.requires.1 at_row.read-row.result at_row.read-row.ensures at-if2.if2.true c.atom.ensures
 
   condition-built-requires : condition-lts.Need-built-requires condition-calls condition_at condition.Post
   condition-built-requires c κs =
@@ -339,7 +339,7 @@ module _ (t : ℕ) where
       let at-if3 = c.before.before in
       let at-built = at-if3.before.before.before.before.before.before.before.before.before in
       let start = at-built.before.before.before.before.before.before.before.before.before.before.before.before.before.before.before.before.before.before.before.before in (
-        kept-asks (asks-next _ start.requires.1 at-built.built.ensures (ne_eqb _ 65535 at-if3.if3.false) at-built.built.auto.1.1.1.1.1.1.1.1.1.1.0 start.requires.1.effect),
+        kept_asks (asks_next _ start.requires.1 at-built.built.ensures (ne_eqb _ 65535 at-if3.if3.false) at-built.built.auto.1.1.1.1.1.1.1.1.1.1.0 start.requires.1.effect),
         small_row at-built.built.ensures.builds (ne_eqb _ 65535 at-if3.if3.false),
       )
 
@@ -376,7 +376,7 @@ module _ (t : ℕ) where
   condition-if-lacks-requires c κs =
       let at-frame-of = c.before in
       let start = at-frame-of.before.before.before.before.before.before.before.before in
-      rw at-frame-of.frame-of.ensures (in-set start.requires.1, start.requires.1.noted.sets.words)
+      rw at-frame-of.frame-of.ensures (in_set start.requires.1, start.requires.1.noted.sets.words)
 
   condition-if-returns : condition-if-lts.Need-returns condition-if-calls condition-if-at condition-if.Post
   condition-if-returns c =
@@ -384,7 +384,7 @@ module _ (t : ℕ) where
       let at-lacks = at-if1.before in
       let at-frame-of = at-lacks.before.before in
       let start = at-frame-of.before.before.before.before.before.before.before.before in
-      answers-lacking start.requires.1 (lacks_framed _ _ _ _ at-frame-of.frame-of.ensures (sym at-if1.if1.true ∙ at-lacks.lacks.ensures))
+      answers_lacking start.requires.1 (lacks_framed _ _ _ _ at-frame-of.frame-of.ensures (sym at-if1.if1.true ∙ at-lacks.lacks.ensures))
       c.falsity.ensures
 
   condition-if-condition-requires : condition-if-lts.Need-condition-requires condition-if-calls condition-if-at condition-if.Post
@@ -407,8 +407,8 @@ module _ (t : ℕ) where
   under-condition-requires c κs =
       let at_row = c.before.before.before.before.before.before.before in
       let start = at_row.before.before.before.before.before.before.before in (
-        omega (arith, start.requires.0, (inner-lower start.requires.1.0 start.requires.1.1 at_row.read-row.result at_row.read-row.ensures).1),
-        inner-asks start.requires.1.0 start.requires.1.1 at_row.read-row.result at_row.read-row.ensures,
+        omega (arith, start.requires.0, (inner_lower start.requires.1.0 start.requires.1.1 at_row.read-row.result at_row.read-row.ensures).1),
+        inner_asks start.requires.1.0 start.requires.1.1 at_row.read-row.result at_row.read-row.ensures,
       )
 
   under-returns : under-lts.Need-returns under-calls under_at under.Post

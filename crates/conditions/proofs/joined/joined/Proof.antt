@@ -4,7 +4,7 @@ use Rattle.conditions.proofs.joined.joined.Statement.{statement}
 use Rattle.conditions.proofs.joined.joined.Tie as tie
 use mathlib.Core.Path.{refl}
 use Rattle.formula_builder.specs.Inner.Held.{framed}
-use Rattle.conditions.proofs.Joins.{join-ready, join-small, joined-kept, joined_made}
+use Rattle.conditions.proofs.Joins.{join_ready, join_small, joined_kept, joined_made}
 
 last-join-requires : tie.Need-last-join-requires
 last-join-requires c κs =
@@ -14,18 +14,18 @@ last-join-requires c κs =
 returns : tie.Need-returns
 returns c =
     let at-last-join = c.before in
-    λ w o. joined-kept at-last-join.last-join.ensures c.if1.true
+    λ w o. joined_kept at-last-join.last-join.ensures c.if1.true
 
 join-requires : tie.Need-join-requires
 join-requires c κs =
     let start = c.before.before.before.before.before.before.before.before in
-    join-ready start.requires
+    join_ready start.requires
 
 keep-join-requires : tie.Need-keep-join-requires
 keep-join-requires c κs =
     let at_join = c.before.before.before in
     let start = at_join.before.before.before.before.before.before.before.before.before in
-    (start.requires.looks, join-small start.requires (λ w o. at_join.join.ensures (framed start.args.frame.now) w o refl))
+    (start.requires.looks, join_small start.requires (λ w o. at_join.join.ensures (framed start.args.frame.now) w o refl))
 
 returns-2 : tie.Need-returns-2
 returns-2 c =

@@ -5,17 +5,17 @@ use Rattle.conditions.proofs.joined.keep_join.Tie as tie
 use native.Mathlib.Omega.{arith}
 use lib.ListN.{length-set}
 use borrow.Author.Tests.{ne_eqb}
-use Rattle.conditions.proofs.Joins.{join-room, keep-join-kept}
+use Rattle.conditions.proofs.Joins.{join_room, keep_join_kept}
 
 slice-write-notes : tie.Need-slice-write-notes
 slice-write-notes c =
     let start = c.before.before.before.before.before in
-    omega (arith, join-room start.requires.0)
+    omega (arith, join_room start.requires.0)
 
 slice-write-notes-2 : tie.Need-slice-write-notes-2
 slice-write-notes-2 c =
     let start = c.before.before.before.before.before in
-    simp length-set (omega (arith, join-room start.requires.0))
+    simp length-set (omega (arith, join_room start.requires.0))
 
 add-notes-2 : tie.Need-overflow-add-notes-2
 add-notes-2 c =
@@ -26,13 +26,13 @@ add-notes-2 c =
 slice-write-notes-3 : tie.Need-slice-write-notes-3
 slice-write-notes-3 c =
     let start = c.before.before.before.before.before in
-    simp length-set (omega (arith, join-room start.requires.0))
+    simp length-set (omega (arith, join_room start.requires.0))
 
 returns-5 : tie.Need-returns-5
 returns-5 c =
     let at-if1 = c.before.before.before.before in
     let start = at-if1.before in
-    keep-join-kept start.requires.0 start.args.t start.args.l start.args.r start.args.x at-if1.if1.false
+    keep_join_kept start.requires.0 start.args.t start.args.l start.args.r start.args.x at-if1.if1.false
 
 pub keep-join-spec : {M : Type 1} → statement M
 keep-join-spec =

@@ -4,7 +4,7 @@ use Rattle.conditions.proofs.joined.last_join.Statement.{statement}
 use Rattle.conditions.proofs.joined.last_join.Tie as tie
 use native.Mathlib.Omega.{arith}
 use Rattle.formula_builder.specs.Inner.Held.{framed}
-use Rattle.conditions.proofs.Joins.{rejoins_none, rejoins_kept, join-room}
+use Rattle.conditions.proofs.Joins.{rejoins_none, rejoins_kept, join_room}
 
 returns : tie.Need-returns
 returns c =
@@ -14,7 +14,7 @@ returns c =
 shared-slice-read-if2 : tie.Need-shared-slice-read-if2
 shared-slice-read-if2 c =
     let start = c.before.before.before in
-    omega (arith, join-room start.requires)
+    omega (arith, join_room start.requires)
 
 returns-2 : tie.Need-returns-2
 returns-2 c =
@@ -24,7 +24,7 @@ returns-2 c =
 shared-slice-read-if3 : tie.Need-shared-slice-read-if3
 shared-slice-read-if3 c =
     let start = c.before.before.before.before.before in
-    omega (arith, join-room start.requires)
+    omega (arith, join_room start.requires)
 
 returns-3 : tie.Need-returns-3
 returns-3 c =
@@ -34,7 +34,7 @@ returns-3 c =
 shared-slice-read-result : tie.Need-shared-slice-read-result
 shared-slice-read-result c =
     let start = c.before.before.before.before.before.before.before in
-    omega (arith, join-room start.requires)
+    omega (arith, join_room start.requires)
 
 returns-4 : tie.Need-returns-4
 returns-4 c =

@@ -4,7 +4,7 @@ use Rattle.conditions.proofs.kept.keep_noted.Statement.{statement}
 use Rattle.conditions.proofs.kept.keep_noted.Tie as tie
 use native.Mathlib.Omega.{arith}
 use Rattle.formula_builder.specs.Inner.Held.{framed}
-use Rattle.conditions.proofs.Notes.{keep-kept, keep-unkept}
+use Rattle.conditions.proofs.Notes.{keep_kept, keep_unkept}
 
 mul-notes : tie.Need-overflow-mul-notes
 mul-notes c =
@@ -21,12 +21,12 @@ returns : tie.Need-returns
 returns c =
     let at_place = c.before in
     let start = at_place.before.before.before in
-    keep-kept start.requires.0.effect (at_place.place.ensures (omega (arith, c.if1.true))) start.args.row
+    keep_kept start.requires.0.effect (at_place.place.ensures (omega (arith, c.if1.true))) start.args.row
 
 returns-2 : tie.Need-returns-2
 returns-2 c =
     let start = c.before.before.before.before in
-    keep-unkept (framed start.args.frame.now) start.args.notes.now start.args.t start.args.e start.args.row
+    keep_unkept (framed start.args.frame.now) start.args.notes.now start.args.t start.args.e start.args.row
 
 pub keep-noted-spec : {M : Type 1} → statement M
 keep-noted-spec =

@@ -4,12 +4,12 @@ use Rattle.conditions.proofs.kept.recall_noted.Statement.{statement}
 use Rattle.conditions.proofs.kept.recall_noted.Tie as tie
 use native.Mathlib.Omega.{arith}
 use Rattle.formula_builder.specs.Inner.Held.{framed}
-use Rattle.conditions.proofs.Notes.{recall-kept, recall-unkept}
+use Rattle.conditions.proofs.Notes.{recall_kept, recall_unkept}
 
 returns : tie.Need-returns
 returns c =
     let start = c.before.before.before in
-    recall-unkept (framed start.args.frame.now) start.args.notes.now start.args.t start.args.e
+    recall_unkept (framed start.args.frame.now) start.args.notes.now start.args.t start.args.e
 
 mul-result : tie.Need-overflow-mul-result
 mul-result c =
@@ -28,7 +28,7 @@ returns-2 c =
     let at-if1 = c.before in
     let at_place = at-if1.before in
     let start = at_place.before.before in
-    recall-kept start.requires.0.effect (at_place.place.ensures (omega (arith, at-if1.if1.false)))
+    recall_kept start.requires.0.effect (at_place.place.ensures (omega (arith, at-if1.if1.false)))
 
 pub recall-noted-spec : {M : Type 1} → statement M
 recall-noted-spec =

@@ -5,7 +5,7 @@ use Rattle.effect_batches.proofs.begin.begin_batch.Tie as tie
 use native.Mathlib.Omega.{arith}
 use mathlib.Core.Path.{◌∙◌}
 use Rattle.atom_sets.specs.Inner.Sets.{sets_end}
-use Rattle.effect_batches.proofs.Numbers.{forgets, lists, noted-anew}
+use Rattle.effect_batches.proofs.Numbers.{forgets, lists, noted_anew}
 
 forget-requires : tie.Need-forget-requires
 forget-requires c κs =
@@ -39,7 +39,7 @@ returns c =
       more = omega (arith, size-batch.ensures.some);
       most = size-batch.ensures.most;
       noted =
-          noted-anew start.args.frame size-batch.auto.1.1.1.1.1.1.1.0 forget.auto.1.1.0 size-batch.ensures.renumbered
+          noted_anew start.args.frame size-batch.auto.1.1.1.1.1.1.1.0 forget.auto.1.1.0 size-batch.ensures.renumbered
           (rw sets_end.ensures.0 at forget.ensures);
       listed = list-rows.ensures;
     }

@@ -3,7 +3,7 @@ use borrow.Author.Rules.{rules}
 use Rattle.effect_batches.proofs.first.hand_on.Statement.{statement}
 use Rattle.effect_batches.proofs.first.hand_on.Tie as tie
 use native.Mathlib.Omega.{arith}
-use Rattle.effect_batches.proofs.Firsts.{names-right, names-left, first_met, comes_below}
+use Rattle.effect_batches.proofs.Firsts.{names_right, names_left, first_met, comes_below}
 
 returns : tie.Need-returns
 returns c = record { stays = λ operators count f. f }
@@ -13,7 +13,7 @@ meet-requires c κs =
     let start = c.before.before.before.before.before.before.before.before in
     let read-row = c.before.before.before.before.read-row in
     let if1 = c.before.before.if1 in
-    let n = names-right start.requires.row read-row.result read-row.ensures (omega (arith, if1.false)) in
+    let n = names_right start.requires.row read-row.result read-row.ensures (omega (arith, if1.false)) in
     omega (arith, start.requires.row.lower read-row.result.b n, start.requires.effect)
 
 returns-2 : tie.Need-returns-2
@@ -25,7 +25,7 @@ returns-2 c =
     let read-row = at-read-row.read-row in
     let if1 = at-if1.if1 in
     let meet = at_meet.meet in
-    let n = names-right start.requires.row read-row.result read-row.ensures (omega (arith, if1.false)) in
+    let n = names_right start.requires.row read-row.result read-row.ensures (omega (arith, if1.false)) in
     record { stays = λ operators count f. first_met meet.ensures (comes_below n (f.comes start.args.i)) f }
 
 meet-requires-2 : tie.Need-meet-requires-2
@@ -38,7 +38,7 @@ meet-requires-2 c κs =
     let if1 = at-if1.if1 in
     let if2 = c.before.before.if2 in
     let meet = at_meet.meet in
-    let n = names-left start.requires.row read-row.result read-row.ensures (omega (arith, if1.false)) if2.false in
+    let n = names_left start.requires.row read-row.result read-row.ensures (omega (arith, if1.false)) if2.false in
     omega (arith, start.requires.row.lower read-row.result.a n, start.requires.effect, meet.auto.0)
 
 returns-3 : tie.Need-returns-3
@@ -53,8 +53,8 @@ returns-3 c =
     let if2 = at-if2.if2 in
     let meet2 = c.before.before.meet2 in
     let meet = at_meet.meet in
-    let r = names-right start.requires.row read-row.result read-row.ensures (omega (arith, if1.false)) in
-    let l = names-left start.requires.row read-row.result read-row.ensures (omega (arith, if1.false)) if2.false in
+    let r = names_right start.requires.row read-row.result read-row.ensures (omega (arith, if1.false)) in
+    let l = names_left start.requires.row read-row.result read-row.ensures (omega (arith, if1.false)) if2.false in
     record {
       stays = λ operators count f.
           let w = f.comes start.args.i in

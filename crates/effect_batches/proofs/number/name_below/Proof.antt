@@ -3,7 +3,7 @@ use borrow.Author.Rules.{rules}
 use Rattle.effect_batches.proofs.number.name_below.Statement.{statement}
 use Rattle.effect_batches.proofs.number.name_below.Tie as tie
 use native.Mathlib.Omega.{arith}
-use Rattle.effect_batches.proofs.Firsts.{names-right, names-left}
+use Rattle.effect_batches.proofs.Firsts.{names_right, names_left}
 use Rattle.effect_batches.proofs.Numbers.{numbered_none, numbered_more, numbered_then, names_row}
 use mathlib.Core.Path.{refl}
 
@@ -40,7 +40,7 @@ name-requires c κs =
     let start = at-read-row.before.before.before.before.before.before.before in
     let read-row = at-read-row.read-row in
     let if3 = c.before.before.if3 in
-    names_row start.requires (names-right start.requires.row read-row.result read-row.ensures (omega (arith, if3.false))) refl
+    names_row start.requires (names_right start.requires.row read-row.result read-row.ensures (omega (arith, if3.false))) refl
     (omega (arith, start.requires.few))
 
 returns-4 : tie.Need-returns-4
@@ -52,7 +52,7 @@ returns-4 c =
     let read-row = at-read-row.read-row in
     let if3 = at-if3.if3 in
     let name = at_name.name in
-    let low = start.requires.row.lower read-row.result.b (names-right start.requires.row read-row.result read-row.ensures (omega (arith, if3.false))) in
+    let low = start.requires.row.lower read-row.result.b (names_right start.requires.row read-row.result read-row.ensures (omega (arith, if3.false))) in
     λ n h. numbered_more (omega arith) (name.ensures n (omega (arith, low, h)))
 
 name-requires-2 : tie.Need-name-requires-2
@@ -65,8 +65,8 @@ name-requires-2 c κs =
     let if3 = at-if3.if3 in
     let if4 = c.before.before.if4 in
     let name = at_name.name in
-    let low = start.requires.row.lower read-row.result.b (names-right start.requires.row read-row.result read-row.ensures (omega (arith, if3.false))) in
-    names_row start.requires (names-left start.requires.row read-row.result read-row.ensures (omega (arith, if3.false)) if4.false)
+    let low = start.requires.row.lower read-row.result.b (names_right start.requires.row read-row.result read-row.ensures (omega (arith, if3.false))) in
+    names_row start.requires (names_left start.requires.row read-row.result read-row.ensures (omega (arith, if3.false)) if4.false)
     name.auto.1.1.1.1.1.0 (omega (arith, start.requires.few, (name.ensures start.args.i low).once))
 
 returns-5 : tie.Need-returns-5
@@ -81,9 +81,9 @@ returns-5 c =
     let if4 = at-if4.if4 in
     let name = at_name.name in
     let name2 = c.before.before.name2 in
-    let low = start.requires.row.lower read-row.result.b (names-right start.requires.row read-row.result read-row.ensures (omega (arith, if3.false))) in
+    let low = start.requires.row.lower read-row.result.b (names_right start.requires.row read-row.result read-row.ensures (omega (arith, if3.false))) in
     let left = start.requires.row.lower read-row.result.a
-    (names-left start.requires.row read-row.result read-row.ensures (omega (arith, if3.false)) if4.false) in
+    (names_left start.requires.row read-row.result read-row.ensures (omega (arith, if3.false)) if4.false) in
     λ n h. numbered_then (omega arith) (name.ensures n (omega (arith, low, h))) (name2.ensures n (omega (arith, left, h)))
 
 pub name-below-spec : {M : Type 1} → statement M

@@ -4,7 +4,7 @@ use Rattle.evaluating.proofs.formulas.evaluate.Tie as tie
 use Prim.Native.Nat.{◌-◌}
 use native.Mathlib.Omega.{arith}
 use mathlib.Core.Path.{◌≡◌}
-use Rattle.evaluating.proofs.Valuing.{Evaluating, begin, row-ready, one_more, evaluated}
+use Rattle.evaluating.proofs.Valuing.{Evaluating, begin, row_ready, one_more, evaluated}
 
 abbrev invariant-loop : tie.invariant-loop
 invariant-loop formulas from to state scratch₀ i₀ scratch i = Evaluating formulas to state scratch₀ i scratch
@@ -16,7 +16,7 @@ loop-holds : tie.Need-loop-init invariant-loop decreases-loop
 loop-holds c = begin c.before.before.before.requires
 
 value-of-requires : tie.Need-value-of-requires invariant-loop decreases-loop
-value-of-requires c κs = row-ready c.before.before.before.before.before.before.requires (omega arith) c.before.before.loop.invariant
+value-of-requires c κs = row_ready c.before.before.before.before.before.before.requires (omega arith) c.before.before.loop.invariant
 
 slice-write-scratch : tie.Need-slice-write-scratch invariant-loop decreases-loop
 slice-write-scratch c = omega (arith, c.before.before.before.before.before.before.before.requires.room, c.before.before.before.loop.invariant.same)

@@ -1,8 +1,8 @@
 -- `check` meets its contract: 0, or the first number in order. Assumes nothing.
 use Rattle.task.proofs.Order.{failed, tested}
 use Rattle.finite_domain.specs.Check.{value_counts_kept, initial_values_kept, finite_formulas_number, finite_effects_number, finite_operators_number}
-use Rattle.finite_domain.proofs.Order.{finite-6, finite-7, finite-5, finite-25, finite-26, finite-rows}
-use Rattle.finite_domain.proofs.Passed.{finite-lengths-tested}
+use Rattle.finite_domain.proofs.Order.{finite_6, finite_7, finite-5, finite-25, finite-26, finite-rows}
+use Rattle.finite_domain.proofs.Passed.{finite_lengths_tested}
 use borrow.Author.Rules.{rules}
 use Rattle.finite_domain.proofs.check.check.Statement.{statement}
 use Rattle.finite_domain.proofs.check.check.Tie as tie
@@ -11,7 +11,7 @@ returns : tie.Need-returns
 returns c =
     let at-if1 = c in
     let at-finite-counts-kept = at-if1.before in
-    finite-6 _ (failed at-finite-counts-kept.finite_counts_kept.ensures at-if1.if1.true)
+    finite_6 _ (failed at-finite-counts-kept.finite_counts_kept.ensures at-if1.if1.true)
 
 returns-2 : tie.Need-returns-2
 returns-2 c =
@@ -19,7 +19,7 @@ returns-2 c =
     let at-goal-kept = at-if2.before in
     let at-if1 = at-goal-kept.before in
     let at-finite-counts-kept = at-if1.before in
-    finite-7 _ (tested at-finite-counts-kept.finite_counts_kept.ensures at-if1.if1.false) (failed at-goal-kept.goal_kept.ensures at-if2.if2.true)
+    finite_7 _ (tested at-finite-counts-kept.finite_counts_kept.ensures at-if1.if1.false) (failed at-goal-kept.goal_kept.ensures at-if2.if2.true)
 
 returns-3 : tie.Need-returns-3
 returns-3 c =
@@ -36,7 +36,7 @@ value-counts-kept-requires : tie.Need-value-counts-kept-requires
 value-counts-kept-requires c κs =
     let at-if3 = c.before in
     let at-finite-long-enough = at-if3.before in
-    ((finite-lengths-tested _).0 (tested at-finite-long-enough.finite_long_enough.ensures at-if3.if3.false)).counts
+    ((finite_lengths_tested _).0 (tested at-finite-long-enough.finite_long_enough.ensures at-if3.if3.false)).counts
 
 returns-4 : tie.Need-returns-4
 unfolding value_counts_kept initial_values_kept
@@ -57,7 +57,7 @@ initial-values-kept-requires : tie.Need-initial-values-kept-requires
 initial-values-kept-requires c κs =
     let at-if3 = c.before.before.before.before in
     let at-finite-long-enough = at-if3.before in
-    let room = (finite-lengths-tested _).0 (tested at-finite-long-enough.finite_long_enough.ensures at-if3.if3.false) in
+    let room = (finite_lengths_tested _).0 (tested at-finite-long-enough.finite_long_enough.ensures at-if3.if3.false) in
     (room.counts, room.initial)
 
 returns-5 : tie.Need-returns-5
@@ -82,7 +82,7 @@ tables-number-requires : tie.Need-tables-number-requires
 tables-number-requires c κs =
     let at-if3 = c.before.before.before.before.before.before in
     let at-finite-long-enough = at-if3.before in
-    let room = (finite-lengths-tested _).0 (tested at-finite-long-enough.finite_long_enough.ensures at-if3.if3.false) in
+    let room = (finite_lengths_tested _).0 (tested at-finite-long-enough.finite_long_enough.ensures at-if3.if3.false) in
     (room.counts, room.formulas, room.effects, room.operators)
 
 returns-6 : tie.Need-returns-6

@@ -2,26 +2,26 @@
 use mathlib.Core.Path.{ap, ◌∙◌}
 use mathlib.Core.Bool.{Bool}
 use Rattle.task.specs.Check.{unless}
-use Rattle.finite_domain.proofs.Ways.{effect-leaf, effect-no-set, effect-no-clear, effect-other}
+use Rattle.finite_domain.proofs.Ways.{effect_leaf, effect_no_set, effect_no_clear, effect_other}
 use borrow.Author.Rules.{rules}
 use Rattle.finite_domain.proofs.rows.effect_number.Statement.{statement}
 use Rattle.finite_domain.proofs.rows.effect_number.Tie as tie
 
 returns : tie.Need-returns
-returns c = c.value-number.ensures ∙ effect-leaf _ _ _ _ _ _ _ c.before.match.keys1
+returns c = c.value-number.ensures ∙ effect_leaf _ _ _ _ _ _ _ c.before.match.keys1
 
 returns-2 : tie.Need-returns-2
-returns-2 c = effect-no-set _ _ _ _ _ _ _ c.match.keys2
+returns-2 c = effect_no_set _ _ _ _ _ _ _ c.match.keys2
 
 returns-3 : tie.Need-returns-3
-returns-3 c = effect-no-clear _ _ _ _ _ _ _ c.match.keys3
+returns-3 c = effect_no_clear _ _ _ _ _ _ _ c.match.keys3
 
 returns-4 : tie.Need-returns-4
 returns-4 c =
     let rest = c.before.before.match.rest in
     c.unless.ensures
     ∙ ap (λ (b : Bool). unless b 11 0) c.before.effect_kept.ensures
-    ∙ effect-other _ _ _ _ _ _ _ rest.0.0.1 rest.0.1 rest.1
+    ∙ effect_other _ _ _ _ _ _ _ rest.0.0.1 rest.0.1 rest.1
 
 pub effect-number-spec : {M : Type 1} → statement M
 effect-number-spec =

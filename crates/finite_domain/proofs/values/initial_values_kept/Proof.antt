@@ -7,7 +7,7 @@ use lib.ListN.{get_or}
 use Rattle.task.specs.Bounded.{every}
 use Rattle.task.proofs.Bounded.{every_none, every_more, every_stops, every_ends}
 use Rattle.finite_domain.specs.Check.{value_kept}
-use Rattle.finite_domain.proofs.Ways.{value-outside, value-inside}
+use Rattle.finite_domain.proofs.Ways.{value_outside, value_inside}
 use Rattle.finite_domain.proofs.values.initial_values_kept.Statement.{statement}
 use Rattle.finite_domain.proofs.values.initial_values_kept.Tie as tie
 
@@ -33,10 +33,10 @@ shared-slice-read-if1-2 : tie.Need-shared-slice-read-if1-2 invariant-loop decrea
 shared-slice-read-if1-2 c = omega (arith, c.before.before.before.before.requires)
 
 returns : tie.Need-returns invariant-loop decreases-loop
-returns c = every_stops _ _ _ c.before.before.before.loop-test.true (value-outside _ _ _ c.if1.true)
+returns c = every_stops _ _ _ c.before.before.before.loop-test.true (value_outside _ _ _ c.if1.true)
 
 loop-again : tie.Need-loop-preserved invariant-loop decreases-loop
-loop-again c = (omega arith, every_more _ _ c.before.before.before.before.loop.invariant.1 (value-inside _ _ _ c.if1.false))
+loop-again c = (omega arith, every_more _ _ c.before.before.before.before.loop.invariant.1 (value_inside _ _ _ c.if1.false))
 
 returns-2 : tie.Need-returns-2 invariant-loop decreases-loop
 returns-2 c = every_ends _ _ _ c.before.loop.invariant.0 c.loop-test.false c.before.loop.invariant.1

@@ -7,7 +7,7 @@ use mathlib.Core.Path.{◌≡◌, refl, ◌∙◌}
 use lib.ListN.{length}
 use Rattle.translation.specs.Effects.{and_clears}
 use Rattle.flag_tables.specs.Inner.Effects.{Writes}
-use Rattle.flag_tables.proofs.Chains.{clears-none, clears-more, clears-all}
+use Rattle.flag_tables.proofs.Chains.{clears_none, clears_more, clears_all}
 
 abbrev invariant-loop : tie.invariant-loop
 invariant-loop out₀ room base d n r₀ k₀ out r k = (k ≤ n) × (length out ≡ length out₀) × Writes (and_clears base d k) room r₀ out₀ out r
@@ -16,7 +16,7 @@ abbrev decreases-loop : tie.decreases-loop
 decreases-loop out₀ room base d n r₀ k₀ out r k = n - k
 
 loop-holds : tie.Need-loop-init invariant-loop decreases-loop
-loop-holds c = (omega arith, refl, clears-none c.before.args.base c.before.args.d c.before.requires.0)
+loop-holds c = (omega arith, refl, clears_none c.before.args.base c.before.args.d c.before.requires.0)
 
 write-clear-requires : tie.Need-write-clear-requires invariant-loop decreases-loop
 write-clear-requires c κs = (c.before.before.loop.invariant.2.ready, omega (arith, c.before.loop-test.true, c.before.before.before.before.requires.1))
@@ -39,7 +39,7 @@ loop-again c =
     let at = at-loop.loop in (
       omega (arith, at-loop-test.loop-test.true),
       at-write-clear.write-clear.auto.0 ∙ at.invariant.1,
-      clears-more s.args.base s.args.d at.k at.invariant.2 at-write-clear.write-clear.ensures,
+      clears_more s.args.base s.args.d at.k at.invariant.2 at-write-clear.write-clear.ensures,
     )
 
 same_length : tie.Need-same-length invariant-loop decreases-loop
@@ -49,7 +49,7 @@ returns : tie.Need-returns invariant-loop decreases-loop
 returns c =
     let s = c.before.before.before in
     let at = c.before.loop in
-    clears-all s.args.base s.args.d at.k s.args.n (omega (arith, at.invariant.0, c.loop-test.false)) at.invariant.2
+    clears_all s.args.base s.args.d at.k s.args.n (omega (arith, at.invariant.0, c.loop-test.false)) at.invariant.2
 
 pub write-clears-spec : {M : Type 1} → statement M
 write-clears-spec =

@@ -2,15 +2,15 @@
 use borrow.Author.Rules.{rules}
 use Rattle.flag_tables.proofs.becomes.write_row.Statement.{statement}
 use Rattle.flag_tables.proofs.becomes.write_row.Tie as tie
-use Rattle.flag_tables.proofs.Chains.{writes-filled, row-full, row_done}
+use Rattle.flag_tables.proofs.Chains.{writes_filled, row_full, row_done}
 
 returns : tie.Need-returns
-returns c = writes-filled c.before.before.requires c.if1.true
+returns c = writes_filled c.before.before.requires c.if1.true
 
 returns-2 : tie.Need-returns-2
 returns-2 c =
     let s = c.before.before.before.before in
-    rw c.full.ensures (row-full s.args.room s.args.at s.args.out.now s.args.kind s.args.a s.args.b s.requires c.before.if2.true)
+    rw c.full.ensures (row_full s.args.room s.args.at s.args.out.now s.args.kind s.args.a s.args.b s.requires c.before.if2.true)
 
 returns-3 : tie.Need-returns-3
 returns-3 c =

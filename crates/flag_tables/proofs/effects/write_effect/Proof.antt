@@ -4,7 +4,7 @@ use Rattle.flag_tables.proofs.effects.write_effect.Statement.{statement}
 use Rattle.flag_tables.proofs.effects.write_effect.Tie as tie
 use native.Mathlib.Omega.{arith}
 use Rattle.flag_tables.specs.Inner.Flags.{as_row}
-use Rattle.flag_tables.proofs.EffectTable.{five_becomes, three_both, four_under, writes-becomes, writes_both, writes-under, writes-other}
+use Rattle.flag_tables.proofs.EffectTable.{five_becomes, three_both, four_under, writes_becomes, writes_both, writes_under, writes_other}
 
 shared-slice-read-write-becomes : tie.Need-shared-slice-read-write-becomes
 shared-slice-read-write-becomes c =
@@ -38,7 +38,7 @@ returns : tie.Need-returns
 returns c =
     let at-if1 = c.before.before.before.before.before.before in
     let s = at-if1.before.before.before.before.before.before.before.before.before in
-    writes-becomes s.args.counts.now s.args.firsts.now s.args.memo.now s.args.places.now (as_row s.args.row) at-if1.if1.true c.before.before.write-becomes.ensures
+    writes_becomes s.args.counts.now s.args.firsts.now s.args.memo.now s.args.places.now (as_row s.args.row) at-if1.if1.true c.before.before.write-becomes.ensures
 
 shared-slice-read-write-row : tie.Need-shared-slice-read-write-row
 shared-slice-read-write-row c =
@@ -77,7 +77,7 @@ returns-3 : tie.Need-returns-3
 returns-3 c =
     let at-if3 = c.before.before.before.before.before.before in
     let s = at-if3.before.before.before.before.before.before.before.before.before.before.before.before.before in
-    writes-under s.args.counts.now s.args.firsts.now s.args.memo.now s.args.places.now (as_row s.args.row) at-if3.if3.true c.before.before.write-row2.ensures
+    writes_under s.args.counts.now s.args.firsts.now s.args.memo.now s.args.places.now (as_row s.args.row) at-if3.if3.true c.before.before.write-row2.ensures
 
 returns-4 : tie.Need-returns-4
 returns-4 c =
@@ -85,7 +85,7 @@ returns-4 c =
     let at-if2 = at-if3.before.before in
     let at-if1 = at-if2.before.before in
     let s = at-if1.before.before.before.before.before.before.before.before.before in
-    writes-other s.args.counts.now s.args.firsts.now s.args.memo.now s.args.places.now (as_row s.args.row) at-if1.if1.false at-if2.if2.false
+    writes_other s.args.counts.now s.args.firsts.now s.args.memo.now s.args.places.now (as_row s.args.row) at-if1.if1.false at-if2.if2.false
     at-if3.if3.false c.before.before.write-row3.ensures
 
 pub write-effect-spec : {M : Type 1} → statement M

@@ -4,7 +4,7 @@ use Rattle.flag_tables.proofs.effects.write_effects.Tie as tie
 use Prim.Native.Nat.{◌-◌}
 use mathlib.Core.Path.{◌∙◌}
 use native.Mathlib.Omega.{arith}
-use Rattle.flag_tables.proofs.EffectTable.{Effecting, effecting-none, effecting-asks, effecting-more, effecting-stops, effecting-all}
+use Rattle.flag_tables.proofs.EffectTable.{Effecting, effecting_none, effecting_asks, effecting-more, effecting-stops, effecting_all}
 
 abbrev invariant-loop : tie.invariant-loop
 invariant-loop effects n counts firsts memo places₀ out₀ room at₀ i₀ places out at i = Effecting effects n counts firsts memo places₀ out₀ room places out at i
@@ -15,7 +15,7 @@ decreases-loop effects n counts firsts memo places₀ out₀ room at₀ i₀ pla
 loop-holds : tie.Need-loop-init invariant-loop decreases-loop
 loop-holds c =
     let s = c.before.before.before.before.before.before in
-    effecting-none s.args.effects.now s.args.n s.args.counts.now s.args.firsts.now s.args.memo.now s.args.places.now s.args.out.now
+    effecting_none s.args.effects.now s.args.n s.args.counts.now s.args.firsts.now s.args.memo.now s.args.places.now s.args.out.now
     s.args.room s.requires
 
 row-at-requires : tie.Need-row-at-requires invariant-loop decreases-loop
@@ -31,7 +31,7 @@ write-effect-requires c κs =
     let s = at-loop.before.before.before.before.before.before.before in
     let at = at-loop.loop in (
       at.invariant.ready,
-      effecting-asks s.args.effects.now s.args.n s.args.counts.now s.args.firsts.now s.args.memo.now s.args.places.now s.args.out.now
+      effecting_asks s.args.effects.now s.args.n s.args.counts.now s.args.firsts.now s.args.memo.now s.args.places.now s.args.out.now
           s.args.room s.requires at.invariant at-loop-test.loop-test.true at-row-at.row_at.result at-row-at.row_at.ensures,
     )
 
@@ -99,7 +99,7 @@ returns-2 : tie.Need-returns-2 invariant-loop decreases-loop
 returns-2 c =
     let s = c.before.before.before.before.before.before.before.before in
     let at = c.before.loop in
-    effecting-all s.args.effects.now s.args.n s.args.counts.now s.args.firsts.now s.args.memo.now s.args.places.now s.args.out.now
+    effecting_all s.args.effects.now s.args.n s.args.counts.now s.args.firsts.now s.args.memo.now s.args.places.now s.args.out.now
     s.args.room s.requires at.invariant c.loop-test.false
 
 pub write-effects-spec : {M : Type 1} → statement M

@@ -4,7 +4,7 @@ use Rattle.flag_tables.proofs.firsts.first_flags.Tie as tie
 use Prim.Native.Nat.{◌-◌}
 use lib.ListN.{length-set}
 use native.Mathlib.Omega.{arith}
-use Rattle.flag_tables.proofs.FirstFound.{Adding, adding-none, adding-small, adding-more, adding-all}
+use Rattle.flag_tables.proofs.FirstFound.{Adding, adding_none, adding_small, adding_more, adding_all}
 
 abbrev invariant-loop : tie.invariant-loop
 invariant-loop counts v firsts₀ sum₀ a₀ firsts sum a = Adding counts v firsts₀ firsts sum a
@@ -13,13 +13,13 @@ abbrev decreases-loop : tie.decreases-loop
 decreases-loop counts v firsts₀ sum₀ a₀ firsts sum a = v - a
 
 loop-holds : tie.Need-loop-init invariant-loop decreases-loop
-loop-holds c = adding-none c.args.counts.now c.args.v c.args.firsts.now c.requires
+loop-holds c = adding_none c.args.counts.now c.args.v c.args.firsts.now c.requires
 
 cast-firsts : tie.Need-overflow-cast-firsts invariant-loop decreases-loop
 cast-firsts c =
     let s = c.before.before in
     let at = c.before.loop in
-    omega (arith, at.invariant.so_far, adding-small s.args.counts.now s.args.v s.args.firsts.now s.requires at.a at.invariant.bound)
+    omega (arith, at.invariant.so_far, adding_small s.args.counts.now s.args.v s.args.firsts.now s.requires at.a at.invariant.bound)
 
 mul-firsts : tie.Need-overflow-mul-firsts invariant-loop decreases-loop
 mul-firsts c = omega (arith, c.before.before.well-formed, c.before.before.requires.space, c.before.loop.invariant.same)
@@ -43,7 +43,7 @@ add-sum c =
     omega (
       arith,
       at.invariant.so_far,
-      adding-small s.args.counts.now s.args.v s.args.firsts.now s.requires at.a at.invariant.bound,
+      adding_small s.args.counts.now s.args.v s.args.firsts.now s.requires at.a at.invariant.bound,
       s.requires.small at.a c.before.loop-test.true,
     )
 
@@ -57,13 +57,13 @@ loop-again : tie.Need-loop-preserved invariant-loop decreases-loop
 loop-again c =
     let s = c.before.before.before in
     let at = c.before.before.loop in
-    adding-more s.args.counts.now s.args.v s.args.firsts.now s.requires at.firsts at.sum at.a at.invariant c.before.loop-test.true
+    adding_more s.args.counts.now s.args.v s.args.firsts.now s.requires at.firsts at.sum at.a at.invariant c.before.loop-test.true
 
 cast-firsts-2 : tie.Need-overflow-cast-firsts-2 invariant-loop decreases-loop
 cast-firsts-2 c =
     let s = c.before.before in
     let at = c.before.loop in
-    omega (arith, at.invariant.so_far, adding-small s.args.counts.now s.args.v s.args.firsts.now s.requires at.a at.invariant.bound)
+    omega (arith, at.invariant.so_far, adding_small s.args.counts.now s.args.v s.args.firsts.now s.requires at.a at.invariant.bound)
 
 mul-firsts-2 : tie.Need-overflow-mul-firsts-2 invariant-loop decreases-loop
 mul-firsts-2 c = omega (arith, c.before.before.well-formed, c.before.before.requires.space, c.before.loop.invariant.same)
@@ -78,7 +78,7 @@ returns : tie.Need-returns invariant-loop decreases-loop
 returns c =
     let s = c.before.before in
     let at = c.before.loop in
-    adding-all s.args.counts.now s.args.v s.args.firsts.now s.requires at.firsts at.sum at.a at.invariant c.loop-test.false
+    adding_all s.args.counts.now s.args.v s.args.firsts.now s.requires at.firsts at.sum at.a at.invariant c.loop-test.false
 
 pub first-flags-spec : {M : Type 1} → statement M
 first-flags-spec =

@@ -3,7 +3,7 @@ use Rattle.flag_tables.proofs.flags.write_flags.Statement.{statement}
 use Rattle.flag_tables.proofs.flags.write_flags.Tie as tie
 use Prim.Native.Nat.{◌-◌}
 use native.Mathlib.Omega.{arith}
-use Rattle.flag_tables.proofs.OwnFlags.{Flagging, flagging-none, flagging-room, flagging-more, flagging-all}
+use Rattle.flag_tables.proofs.OwnFlags.{Flagging, flagging_none, flagging_room, flagging_more, flagging_all}
 
 abbrev invariant-loop : tie.invariant-loop
 invariant-loop counts initial v out₀ at₀ a₀ out at a = Flagging counts initial v out₀ out at a
@@ -14,7 +14,7 @@ decreases-loop counts initial v out₀ at₀ a₀ out at a = v - a
 loop-holds : tie.Need-loop-init invariant-loop decreases-loop
 loop-holds c =
     let s = c.before.before.before in
-    flagging-none s.args.counts.now s.args.initial.now s.args.v s.args.out.now s.requires
+    flagging_none s.args.counts.now s.args.initial.now s.args.v s.args.out.now s.requires
 
 mul-n : tie.Need-overflow-mul-n invariant-loop decreases-loop
 mul-n c =
@@ -47,7 +47,7 @@ write-own-requires c κs =
     let at-loop = at-loop-test.before in
     let s = at-loop.before.before.before.before in
     let at = at-loop.loop in
-    flagging-room s.args.counts.now s.args.initial.now s.args.v s.args.out.now s.requires at.out at.at at.a at.invariant
+    flagging_room s.args.counts.now s.args.initial.now s.args.v s.args.out.now s.requires at.out at.at at.a at.invariant
     at-loop-test.loop-test.true
 
 add_at : tie.Need-overflow-add-at invariant-loop decreases-loop
@@ -60,7 +60,7 @@ add_at c =
       arith,
       s.well-formed,
       at.invariant.same,
-      flagging-room s.args.counts.now s.args.initial.now s.args.v s.args.out.now s.requires at.out at.at at.a at.invariant
+      flagging_room s.args.counts.now s.args.initial.now s.args.v s.args.out.now s.requires at.out at.at at.a at.invariant
           at-loop-test.loop-test.true,
     )
 
@@ -79,7 +79,7 @@ loop-again c =
     let at-loop = at-loop-test.before in
     let s = at-loop.before.before.before.before in
     let at = at-loop.loop in
-    flagging-more s.args.counts.now s.args.initial.now s.args.v s.args.out.now s.requires at.out at-write-own.write-own.new.1.1.1.0 at.at at.a
+    flagging_more s.args.counts.now s.args.initial.now s.args.v s.args.out.now s.requires at.out at-write-own.write-own.new.1.1.1.0 at.at at.a
     at.invariant at-loop-test.loop-test.true at-write-own.write-own.auto.1.1.1.0 at-write-own.write-own.ensures
 
 same_length : tie.Need-same-length invariant-loop decreases-loop
@@ -89,7 +89,7 @@ returns : tie.Need-returns invariant-loop decreases-loop
 returns c =
     let s = c.before.before.before.before.before in
     let at = c.before.loop in
-    flagging-all s.args.counts.now s.args.initial.now s.args.v s.args.out.now s.requires at.out at.at at.a at.invariant
+    flagging_all s.args.counts.now s.args.initial.now s.args.v s.args.out.now s.requires at.out at.at at.a at.invariant
     c.loop-test.false
 
 pub write-flags-spec : {M : Type 1} → statement M

@@ -3,7 +3,7 @@ use Rattle.flag_tables.proofs.leaves.flag_rows.Statement.{statement}
 use Rattle.flag_tables.proofs.leaves.flag_rows.Tie as tie
 use Prim.Native.Nat.{◌-◌}
 use native.Mathlib.Omega.{arith}
-use Rattle.flag_tables.proofs.Flagged.{Copying, copying-none, copying-asks, copying-more, copying-all}
+use Rattle.flag_tables.proofs.Flagged.{Copying, copying_none, copying_asks, copying_more, copying_all}
 
 abbrev invariant-loop : tie.invariant-loop
 invariant-loop words n leaf kind firsts out₀ i₀ out i = Copying firsts leaf kind words n out₀ out i
@@ -14,7 +14,7 @@ decreases-loop words n leaf kind firsts out₀ i₀ out i = n - i
 loop-holds : tie.Need-loop-init invariant-loop decreases-loop
 loop-holds c =
     let s = c.before.before.before in
-    copying-none s.args.firsts.now s.args.leaf s.args.kind s.args.words.now s.args.n s.args.out.now s.requires
+    copying_none s.args.firsts.now s.args.leaf s.args.kind s.args.words.now s.args.n s.args.out.now s.requires
 
 row-at-requires : tie.Need-row-at-requires invariant-loop decreases-loop
 row-at-requires c κs = omega (arith, c.before.before.before.before.before.requires.there)
@@ -22,7 +22,7 @@ row-at-requires c κs = omega (arith, c.before.before.before.before.before.requi
 flag-leaf-requires : tie.Need-flag-leaf-requires invariant-loop decreases-loop
 flag-leaf-requires c κs =
     let s = c.before.before.before.before.before.before in
-    copying-asks s.args.firsts.now s.args.leaf s.args.kind s.args.words.now s.args.n s.args.out.now s.requires c.before.before.loop.i
+    copying_asks s.args.firsts.now s.args.leaf s.args.kind s.args.words.now s.args.n s.args.out.now s.requires c.before.before.loop.i
     c.row_at.result c.before.loop-test.true c.row_at.ensures
 
 store-row-requires : tie.Need-store-row-requires invariant-loop decreases-loop
@@ -48,7 +48,7 @@ loop-again c =
     let s = at-loop.before.before.before.before in
     let at = at-loop.loop in
     rw c.before.before.store-row.ensures
-    (copying-more s.args.firsts.now s.args.leaf s.args.kind s.args.words.now s.args.n s.args.out.now s.requires at.out at.i
+    (copying_more s.args.firsts.now s.args.leaf s.args.kind s.args.words.now s.args.n s.args.out.now s.requires at.out at.i
     at-row-at.row_at.result at-flag-leaf.flag-leaf.result at.invariant at-loop-test.loop-test.true at-row-at.row_at.ensures at-flag-leaf.flag-leaf.ensures)
 
 same_length : tie.Need-same-length invariant-loop decreases-loop
@@ -58,7 +58,7 @@ returns : tie.Need-returns invariant-loop decreases-loop
 returns c =
     let s = c.before.before.before.before.before in
     let at = c.before.loop in
-    copying-all s.args.firsts.now s.args.leaf s.args.kind s.args.words.now s.args.n s.args.out.now s.requires at.out at.i
+    copying_all s.args.firsts.now s.args.leaf s.args.kind s.args.words.now s.args.n s.args.out.now s.requires at.out at.i
     at.invariant c.loop-test.false
 
 pub flag-rows-spec : {M : Type 1} → statement M

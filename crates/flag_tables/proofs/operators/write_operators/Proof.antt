@@ -3,7 +3,7 @@ use Rattle.flag_tables.proofs.operators.write_operators.Statement.{statement}
 use Rattle.flag_tables.proofs.operators.write_operators.Tie as tie
 use Prim.Native.Nat.{◌-◌}
 use native.Mathlib.Omega.{arith}
-use Rattle.flag_tables.proofs.OperatorRows.{Storing, storing-none, storing-more, storing-all}
+use Rattle.flag_tables.proofs.OperatorRows.{Storing, storing_none, storing_more, storing_all}
 
 abbrev invariant-loop : tie.invariant-loop
 invariant-loop operators count preconditions places out₀ o₀ out o = Storing operators preconditions places count out₀ out o
@@ -14,7 +14,7 @@ decreases-loop operators count preconditions places out₀ o₀ out o = count - 
 loop-holds : tie.Need-loop-init invariant-loop decreases-loop
 loop-holds c =
     let s = c.before.before.before.before in
-    storing-none s.args.operators.now s.args.preconditions.now s.args.places.now s.args.count s.args.out.now s.requires
+    storing_none s.args.operators.now s.args.preconditions.now s.args.places.now s.args.count s.args.out.now s.requires
 
 effect-of-requires : tie.Need-effect-of-requires invariant-loop decreases-loop
 effect-of-requires c κs = omega (arith, c.before.before.before.before.before.before.requires.there)
@@ -69,7 +69,7 @@ loop-again c =
     let at-loop = at-loop-test.before in
     let s = at-loop.before.before.before.before.before in
     let at = at-loop.loop in
-    storing-more s.args.operators.now s.args.preconditions.now s.args.places.now s.args.count s.args.out.now s.requires at.out
+    storing_more s.args.operators.now s.args.preconditions.now s.args.places.now s.args.count s.args.out.now s.requires at.out
     at-store-with-parts.store-with-parts.new.1.1.1.1.0 at.o at-effect-of.effect_of.result at.invariant
     at-loop-test.loop-test.true at-effect-of.effect_of.ensures at-store-with-parts.store-with-parts.ensures
 
@@ -80,7 +80,7 @@ returns : tie.Need-returns invariant-loop decreases-loop
 returns c =
     let s = c.before.before.before.before.before.before in
     let at = c.before.loop in
-    storing-all s.args.operators.now s.args.preconditions.now s.args.places.now s.args.count s.args.out.now s.requires at.out
+    storing_all s.args.operators.now s.args.preconditions.now s.args.places.now s.args.count s.args.out.now s.requires at.out
     at.o at.invariant c.loop-test.false
 
 pub write-operators-spec : {M : Type 1} → statement M

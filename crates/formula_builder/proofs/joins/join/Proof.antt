@@ -8,7 +8,7 @@ use Rattle.formula_builder.proofs.joins.falsity.Reads as falsity-reads
 use Rattle.formula_builder.proofs.joins.kind.Reads as kind-reads
 use Rattle.formula_builder.proofs.joins.truth.Reads as truth-reads
 use Rattle.formula_builder.proofs.rows.row.Reads as row_reads
-use Rattle.formula_builder.proofs.Steps.{builds_as, builds_stands, falsity_small, join-left-false, join-right-false, join-left-true, join-right-true, join-fresh}
+use Rattle.formula_builder.proofs.Steps.{builds_as, builds_stands, falsity_small, join_left_false, join_right_false, join_left_true, join_right_true, join_fresh}
 use Rattle.formula_builder.specs.Inner.Held.{side}
 use Rattle.normal_form.specs.Builder.{row, image_of_false as false_row}
 use Prim.Native.Nat.{ℕ}
@@ -20,7 +20,7 @@ returns : tie.Need-returns
 returns c =
     let at-args = c.before.before.before.before in
     λ frame w o same ready. rw c.before.before.falsity.ensures
-    (builds_as (join-left-false (side at-args.args.or) at-args.args.a at-args.args.b (c.if1.true ∙ c.before.before.falsity.ensures))
+    (builds_as (join_left_false (side at-args.args.or) at-args.args.a at-args.args.b (c.if1.true ∙ c.before.before.falsity.ensures))
     (builds_stands (false_row (side at-args.args.or)) ready (omega (arith, falsity_small (side at-args.args.or), ready.two))))
 
 -- src/joins.rt:42:9
@@ -30,7 +30,7 @@ returns-2 c =
     let at-args = at-falsity.before.before in
     λ frame w o same ready. rw at-falsity.falsity.ensures
     (builds_as
-    (join-right-false (side at-args.args.or) at-args.args.a at-args.args.b (λ e. c.before.if1.false (e ∙ sym at-falsity.falsity.ensures))
+    (join_right_false (side at-args.args.or) at-args.args.a at-args.args.b (λ e. c.before.if1.false (e ∙ sym at-falsity.falsity.ensures))
     (c.if2.true ∙ at-falsity.falsity.ensures))
     (builds_stands (false_row (side at-args.args.or)) ready (omega (arith, falsity_small (side at-args.args.or), ready.two))))
 
@@ -41,7 +41,7 @@ returns-3 c =
     let at-falsity = at-truth.before in
     let at-args = at-falsity.before.before in
     λ frame w o same ready. builds_as
-    (join-left-true (side at-args.args.or) at-args.args.a at-args.args.b (λ e. c.before.before.if1.false (e ∙ sym at-falsity.falsity.ensures))
+    (join_left_true (side at-args.args.or) at-args.args.a at-args.args.b (λ e. c.before.before.if1.false (e ∙ sym at-falsity.falsity.ensures))
     (λ e. c.before.if2.false (e ∙ sym at-falsity.falsity.ensures)) (c.if3.true ∙ at-truth.truth.ensures))
     (builds_stands at-args.args.b ready at-args.requires.right)
 
@@ -53,7 +53,7 @@ returns-4 c =
     let at-falsity = at-truth.before in
     let at-args = at-falsity.before.before in
     λ frame w o same ready. builds_as
-    (join-right-true (side at-args.args.or) at-args.args.a at-args.args.b (λ e. at-if1.if1.false (e ∙ sym at-falsity.falsity.ensures))
+    (join_right_true (side at-args.args.or) at-args.args.a at-args.args.b (λ e. at-if1.if1.false (e ∙ sym at-falsity.falsity.ensures))
     (λ e. c.before.before.if2.false (e ∙ sym at-falsity.falsity.ensures)) (λ e. c.before.if3.false (e ∙ sym at-truth.truth.ensures))
     (c.if4.true ∙ at-truth.truth.ensures))
     (builds_stands at-args.args.a ready at-args.requires.left)
@@ -70,7 +70,7 @@ returns-5 c =
     let at-falsity = at-truth.before in
     let at-args = at-falsity.before.before in
     λ frame w o same ready. builds_as
-    (join-fresh (side at-args.args.or) at-args.args.a at-args.args.b (λ e. at-if1.if1.false (e ∙ sym at-falsity.falsity.ensures))
+    (join_fresh (side at-args.args.or) at-args.args.a at-args.args.b (λ e. at-if1.if1.false (e ∙ sym at-falsity.falsity.ensures))
     (λ e. at-if2.if2.false (e ∙ sym at-falsity.falsity.ensures)) (λ e. at-if3.if3.false (e ∙ sym at-truth.truth.ensures))
     (λ e. at-if4.if4.false (e ∙ sym at-truth.truth.ensures)) ∙ ap (λ (k : ℕ). row (record { kind = k; a = at-args.args.a; b = at-args.args.b }))
     (sym at-kind.kind.ensures))

@@ -6,11 +6,11 @@ use Rattle.formula_builder.proofs.rows.first_rows.Reads as reads
 use Rattle.formula_builder.proofs.rows.first_rows.Lts as lts
 use Rattle.formula_builder.proofs.rows.append_row.Reads as append-row-reads
 use Rattle.formula_builder.proofs.rows.find_word.Reads as find-word-reads
-use Rattle.formula_builder.proofs.Indexing.{first-searchable, second-searchable, first_two}
+use Rattle.formula_builder.proofs.Indexing.{first_searchable, second_searchable, first_two}
 
 -- src/rows.rt:97:9
 find-word-requires : tie.Need-find-word-requires
-find-word-requires c κs = first-searchable c.before.before.requires
+find-word-requires c κs = first_searchable c.before.before.requires
 
 -- src/rows.rt:104:9
 find-word-requires-2 : tie.Need-find-word-requires-2
@@ -18,7 +18,7 @@ find-word-requires-2 c κs =
     let at-append-row = c.before.before.before in
     let at-find-word = at-append-row.before.before in
     let at_pre = at-find-word.before.before.before in
-    rw at-append-row.append-row.ensures (second-searchable at_pre.requires at-find-word.find-word.ensures)
+    rw at-append-row.append-row.ensures (second_searchable at_pre.requires at-find-word.find-word.ensures)
 
 -- src/rows.rt:88:1
 returns : tie.Need-returns

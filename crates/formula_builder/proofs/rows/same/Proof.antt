@@ -9,7 +9,7 @@ use mathlib.Core.Path.{ap, ◌∙◌}
 use Rattle.task.specs.Table.{Row}
 use Rattle.normal_form.specs.Builder.{same_row}
 use Rattle.formula_builder.specs.Inner.Held.{row_of}
-use Rattle.formula_builder.proofs.Found.{other-a, other_b, by_kind}
+use Rattle.formula_builder.proofs.Found.{other_a, other_b, by_kind}
 
 -- src/rows.rt:32:9
 returns : tie.Need-returns
@@ -24,7 +24,7 @@ returns-2 : tie.Need-returns-2
 returns-2 c =
     let at-read-row = c.before.before.before.before.before.before in
     let at-args = at-read-row.before.before in
-    other-a (row_of at-read-row.read-row.result) (row_of at-args.args.r) c.if2.true ∙ ap (λ (t : Row). same_row t (row_of at-args.args.r))
+    other_a (row_of at-read-row.read-row.result) (row_of at-args.args.r) c.if2.true ∙ ap (λ (t : Row). same_row t (row_of at-args.args.r))
     at-read-row.read-row.ensures
 
 -- src/rows.rt:26:1

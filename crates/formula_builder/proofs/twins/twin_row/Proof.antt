@@ -6,7 +6,7 @@ use Rattle.formula_builder.proofs.twins.twin_row.Tie as tie
 use Rattle.formula_builder.proofs.twins.twin_row.Reads as reads
 use Rattle.formula_builder.proofs.twins.twin_row.Lts as lts
 use Rattle.formula_builder.proofs.rows.variable_row.Reads as variable-row-reads
-use Rattle.formula_builder.proofs.Named.{twin-known, twin-full, twin-over, twin-put}
+use Rattle.formula_builder.proofs.Named.{twin_known, twin_full, twin-over, twin-put}
 use Rattle.formula_builder.specs.Inner.Held.{framed}
 use native.Mathlib.Omega.{arith}
 use mathlib.Core.Path.{refl}
@@ -26,14 +26,14 @@ slice-read-s c = omega (arith, c.before.before.before.before.requires.0.named.ro
 returns : tie.Need-returns
 returns c =
     let at-args = c.before.before.before.before.before in
-    twin-known (framed at-args.args.frame.now) at-args.args.rows.now at-args.args.twins.now at-args.args.table.now
+    twin_known (framed at-args.args.frame.now) at-args.args.rows.now at-args.args.twins.now at-args.args.table.now
     at-args.args.originals.now at-args.requires.0 at-args.args.v at-args.requires.1 c.if1.true
 
 returns-2 : tie.Need-returns-2
 returns-2 c =
     let at-if1 = c.before.before.before in
     let at-args = at-if1.before.before.before.before.before in
-    twin-full (framed at-args.args.frame.now) at-args.args.rows.now at-args.args.twins.now at-args.args.table.now
+    twin_full (framed at-args.args.frame.now) at-args.args.rows.now at-args.args.twins.now at-args.args.table.now
     at-args.args.originals.now at-args.requires.0 at-args.args.v at-args.requires.1 (omega (arith, at-if1.if1.false)) c.if2.true
 
 returns-3 : tie.Need-returns-3

@@ -38,9 +38,9 @@ use mathlib.Core.Path.{refl, ◌∙◌}
 use mathlib.Core.Bool.{true, false, not}
 use Rattle.normal_form.specs.Builder.{plain, negated}
 use Rattle.formula_builder.specs.Inner.Held.{side, framed}
-use Rattle.images.proofs.Rows.{negated-operand, of-not, of_pair, of-equivalent}
-use Rattle.images.proofs.Memos.{place_within, images-as, left-full, right-full, joined, images_known, asks_built, images_noted}
-use Rattle.images.proofs.Steps.{join_asks, equivalent_joins, asks_negated, asks-pair, leaf-ready, leaf-done, left-lower, right-lower, asks-left, asks-right, pair-joins, asks_second}
+use Rattle.images.proofs.Rows.{negated_operand, of_not, of_pair, of_equivalent}
+use Rattle.images.proofs.Memos.{place_within, images_as, left_full, right_full, joined, images_known, asks_built, images_noted}
+use Rattle.images.proofs.Steps.{join_asks, equivalent_joins, asks_negated, asks_pair, leaf_ready, leaf_done, left_lower, right_lower, asks_left, asks_right, pair_joins, asks_second}
 
 abbrev μ-build : Measures 7 build-kinds.ps ℕ
 μ-build κs a = 6 * a.1.0 + 3
@@ -143,7 +143,7 @@ equivalent-image-requires t c κs =
     let asks = start.requires.1 in
     let w = read.read-row.result in
     let same = read.read-row.ensures in
-    (omega (arith, start.requires.0, left-lower asks w same), asks-left asks w same)
+    (omega (arith, start.requires.0, left_lower asks w same), asks_left asks w same)
 
 equivalent-same-length-10 : (t : ℕ) → equivalent-lts.Need-same-length-10 (read-row-reads.Asked, read-row-reads.Learnt, image-below t, image.Post, sided-below t, sided.Post, join-reads.Asked, join-reads.Learnt, negated-image-below t, negated-image.Post) (equivalent_at t) equivalent.Post
 equivalent-same-length-10 t c =
@@ -254,8 +254,8 @@ equivalent-returns t c =
     let asks = start.requires.1 in
     let w = read.read-row.result in
     let same = read.read-row.ensures in
-    let first = pair-joins asks w same false start.args.not false in
-    left-full whole (left-full first one.image.ensures (eq-eqb _ 65535 c.if1.true)) (eq-eqb _ 65535 c.if1.true)
+    let first = pair_joins asks w same false start.args.not false in
+    left_full whole (left_full first one.image.ensures (eq-eqb _ 65535 c.if1.true)) (eq-eqb _ 65535 c.if1.true)
 
 equivalent-sided-requires : (t : ℕ) → equivalent-lts.Need-sided-requires (read-row-reads.Asked, read-row-reads.Learnt, image-below t, image.Post, sided-below t, sided.Post, join-reads.Asked, join-reads.Learnt, negated-image-below t, negated-image.Post) (equivalent_at t) equivalent.Post
 equivalent-sided-requires t c κs =
@@ -266,7 +266,7 @@ equivalent-sided-requires t c κs =
     let asks = start.requires.1 in
     let w = read.read-row.result in
     let same = read.read-row.ensures in
-    (omega (arith, start.requires.0, right-lower asks w same), asks-right asks w same one.image.ensures (ne_eqb _ 65535 there1.if1.false) one.image.auto.1.1.1.1.1.1.1.0)
+    (omega (arith, start.requires.0, right_lower asks w same), asks_right asks w same one.image.ensures (ne_eqb _ 65535 there1.if1.false) one.image.auto.1.1.1.1.1.1.1.0)
 
 equivalent-returns-2 : (t : ℕ) → equivalent-lts.Need-returns-2 (read-row-reads.Asked, read-row-reads.Learnt, image-below t, image.Post, sided-below t, sided.Post, join-reads.Asked, join-reads.Learnt, negated-image-below t, negated-image.Post) (equivalent_at t) equivalent.Post
 equivalent-returns-2 t c =
@@ -279,8 +279,8 @@ equivalent-returns-2 t c =
     let asks = start.requires.1 in
     let w = read.read-row.result in
     let same = read.read-row.ensures in
-    let first = pair-joins asks w same false start.args.not false in
-    left-full whole (right-full first one.image.ensures (ne_eqb _ 65535 there1.if1.false) two.sided.ensures (eq-eqb _ 65535 c.if2.true)) (eq-eqb _ 65535 c.if2.true)
+    let first = pair_joins asks w same false start.args.not false in
+    left_full whole (right_full first one.image.ensures (ne_eqb _ 65535 there1.if1.false) two.sided.ensures (eq-eqb _ 65535 c.if2.true)) (eq-eqb _ 65535 c.if2.true)
 
 equivalent-join-requires : (t : ℕ) → equivalent-lts.Need-join-requires (read-row-reads.Asked, read-row-reads.Learnt, image-below t, image.Post, sided-below t, sided.Post, join-reads.Asked, join-reads.Learnt, negated-image-below t, negated-image.Post) (equivalent_at t) equivalent.Post
 equivalent-join-requires t c κs =
@@ -303,11 +303,11 @@ equivalent-returns-3 t c =
     let asks = start.requires.1 in
     let w = read.read-row.result in
     let same = read.read-row.ensures in
-    let first = pair-joins asks w same false start.args.not false in
+    let first = pair_joins asks w same false start.args.not false in
     let x = one.image.ensures in
     let y = two.sided.ensures in
     let l = joined first x (ne_eqb _ 65535 there1.if1.false) y (ne_eqb _ 65535 there2.if2.false) (three.join.ensures _ _ _ refl (y.builds.done (ne_eqb _ 65535 there2.if2.false)).ready) in
-    left-full whole l (eq-eqb _ 65535 c.if3.true)
+    left_full whole l (eq-eqb _ 65535 c.if3.true)
 
 equivalent-negated-image-requires : (t : ℕ) → equivalent-lts.Need-negated-image-requires (read-row-reads.Asked, read-row-reads.Learnt, image-below t, image.Post, sided-below t, sided.Post, join-reads.Asked, join-reads.Learnt, negated-image-below t, negated-image.Post) (equivalent_at t) equivalent.Post
 equivalent-negated-image-requires t c κs =
@@ -322,13 +322,13 @@ equivalent-negated-image-requires t c κs =
     let asks = start.requires.1 in
     let w = read.read-row.result in
     let same = read.read-row.ensures in
-    let first = pair-joins asks w same false start.args.not false in
+    let first = pair_joins asks w same false start.args.not false in
     let x = one.image.ensures in
     let y = two.sided.ensures in
     let l = joined first x (ne_eqb _ 65535 there1.if1.false) y (ne_eqb _ 65535 there2.if2.false) (three.join.ensures _ _ _ refl (y.builds.done (ne_eqb _ 65535 there2.if2.false)).ready) in
     let long = two.sided.auto.1.1.1.1.1.1.1.1.0 ∙ one.image.auto.1.1.1.1.1.1.1.0 in
     let again = asks_second asks l (ne_eqb _ 65535 there3.if3.false) long in
-    (omega (arith, start.requires.0, left-lower asks w same), asks-left again w same)
+    (omega (arith, start.requires.0, left_lower asks w same), asks_left again w same)
 
 equivalent-returns-4 : (t : ℕ) → equivalent-lts.Need-returns-4 (read-row-reads.Asked, read-row-reads.Learnt, image-below t, image.Post, sided-below t, sided.Post, join-reads.Asked, join-reads.Learnt, negated-image-below t, negated-image.Post) (equivalent_at t) equivalent.Post
 equivalent-returns-4 t c =
@@ -345,14 +345,14 @@ equivalent-returns-4 t c =
     let asks = start.requires.1 in
     let w = read.read-row.result in
     let same = read.read-row.ensures in
-    let first = pair-joins asks w same false start.args.not false in
+    let first = pair_joins asks w same false start.args.not false in
     let x = one.image.ensures in
     let y = two.sided.ensures in
     let l = joined first x (ne_eqb _ 65535 there1.if1.false) y (ne_eqb _ 65535 there2.if2.false) (three.join.ensures _ _ _ refl (y.builds.done (ne_eqb _ 65535 there2.if2.false)).ready) in
     let long = two.sided.auto.1.1.1.1.1.1.1.1.0 ∙ one.image.auto.1.1.1.1.1.1.1.0 in
     let again = asks_second asks l (ne_eqb _ 65535 there3.if3.false) long in
-    let second = pair-joins again w same true (not start.args.not) false in
-    right-full whole l (ne_eqb _ 65535 there3.if3.false) (left-full second four.negated-image.ensures (eq-eqb _ 65535 c.if4.true)) (eq-eqb _ 65535 c.if4.true)
+    let second = pair_joins again w same true (not start.args.not) false in
+    right_full whole l (ne_eqb _ 65535 there3.if3.false) (left_full second four.negated-image.ensures (eq-eqb _ 65535 c.if4.true)) (eq-eqb _ 65535 c.if4.true)
 
 equivalent-sided-requires-2 : (t : ℕ) → equivalent-lts.Need-sided-requires-2 (read-row-reads.Asked, read-row-reads.Learnt, image-below t, image.Post, sided-below t, sided.Post, join-reads.Asked, join-reads.Learnt, negated-image-below t, negated-image.Post) (equivalent_at t) equivalent.Post
 equivalent-sided-requires-2 t c κs =
@@ -369,13 +369,13 @@ equivalent-sided-requires-2 t c κs =
     let asks = start.requires.1 in
     let w = read.read-row.result in
     let same = read.read-row.ensures in
-    let first = pair-joins asks w same false start.args.not false in
+    let first = pair_joins asks w same false start.args.not false in
     let x = one.image.ensures in
     let y = two.sided.ensures in
     let l = joined first x (ne_eqb _ 65535 there1.if1.false) y (ne_eqb _ 65535 there2.if2.false) (three.join.ensures _ _ _ refl (y.builds.done (ne_eqb _ 65535 there2.if2.false)).ready) in
     let long = two.sided.auto.1.1.1.1.1.1.1.1.0 ∙ one.image.auto.1.1.1.1.1.1.1.0 in
     let again = asks_second asks l (ne_eqb _ 65535 there3.if3.false) long in
-    (omega (arith, start.requires.0, right-lower asks w same), asks-right again w same four.negated-image.ensures (ne_eqb _ 65535 there4.if4.false) four.negated-image.auto.1.1.1.1.1.1.1.0)
+    (omega (arith, start.requires.0, right_lower asks w same), asks_right again w same four.negated-image.ensures (ne_eqb _ 65535 there4.if4.false) four.negated-image.auto.1.1.1.1.1.1.1.0)
 
 equivalent-returns-5 : (t : ℕ) → equivalent-lts.Need-returns-5 (read-row-reads.Asked, read-row-reads.Learnt, image-below t, image.Post, sided-below t, sided.Post, join-reads.Asked, join-reads.Learnt, negated-image-below t, negated-image.Post) (equivalent_at t) equivalent.Post
 equivalent-returns-5 t c =
@@ -394,14 +394,14 @@ equivalent-returns-5 t c =
     let asks = start.requires.1 in
     let w = read.read-row.result in
     let same = read.read-row.ensures in
-    let first = pair-joins asks w same false start.args.not false in
+    let first = pair_joins asks w same false start.args.not false in
     let x = one.image.ensures in
     let y = two.sided.ensures in
     let l = joined first x (ne_eqb _ 65535 there1.if1.false) y (ne_eqb _ 65535 there2.if2.false) (three.join.ensures _ _ _ refl (y.builds.done (ne_eqb _ 65535 there2.if2.false)).ready) in
     let long = two.sided.auto.1.1.1.1.1.1.1.1.0 ∙ one.image.auto.1.1.1.1.1.1.1.0 in
     let again = asks_second asks l (ne_eqb _ 65535 there3.if3.false) long in
-    let second = pair-joins again w same true (not start.args.not) false in
-    right-full whole l (ne_eqb _ 65535 there3.if3.false) (right-full second four.negated-image.ensures (ne_eqb _ 65535 there4.if4.false) five.sided2.ensures (eq-eqb _ 65535 c.if5.true)) (eq-eqb _ 65535 c.if5.true)
+    let second = pair_joins again w same true (not start.args.not) false in
+    right_full whole l (ne_eqb _ 65535 there3.if3.false) (right_full second four.negated-image.ensures (ne_eqb _ 65535 there4.if4.false) five.sided2.ensures (eq-eqb _ 65535 c.if5.true)) (eq-eqb _ 65535 c.if5.true)
 
 equivalent-join-requires-2 : (t : ℕ) → equivalent-lts.Need-join-requires-2 (read-row-reads.Asked, read-row-reads.Learnt, image-below t, image.Post, sided-below t, sided.Post, join-reads.Asked, join-reads.Learnt, negated-image-below t, negated-image.Post) (equivalent_at t) equivalent.Post
 equivalent-join-requires-2 t c κs =
@@ -430,17 +430,17 @@ equivalent-returns-6 t c =
     let asks = start.requires.1 in
     let w = read.read-row.result in
     let same = read.read-row.ensures in
-    let first = pair-joins asks w same false start.args.not false in
+    let first = pair_joins asks w same false start.args.not false in
     let x = one.image.ensures in
     let y = two.sided.ensures in
     let l = joined first x (ne_eqb _ 65535 there1.if1.false) y (ne_eqb _ 65535 there2.if2.false) (three.join.ensures _ _ _ refl (y.builds.done (ne_eqb _ 65535 there2.if2.false)).ready) in
     let long = two.sided.auto.1.1.1.1.1.1.1.1.0 ∙ one.image.auto.1.1.1.1.1.1.1.0 in
     let again = asks_second asks l (ne_eqb _ 65535 there3.if3.false) long in
-    let second = pair-joins again w same true (not start.args.not) false in
+    let second = pair_joins again w same true (not start.args.not) false in
     let z = four.negated-image.ensures in
     let v = five.sided2.ensures in
     let r = joined second z (ne_eqb _ 65535 there4.if4.false) v (ne_eqb _ 65535 there5.if5.false) (six.join2.ensures _ _ _ refl (v.builds.done (ne_eqb _ 65535 there5.if5.false)).ready) in
-    right-full whole l (ne_eqb _ 65535 there3.if3.false) r (eq-eqb _ 65535 c.if6.true)
+    right_full whole l (ne_eqb _ 65535 there3.if3.false) r (eq-eqb _ 65535 c.if6.true)
 
 equivalent-join-requires-3 : (t : ℕ) → equivalent-lts.Need-join-requires-3 (read-row-reads.Asked, read-row-reads.Learnt, image-below t, image.Post, sided-below t, sided.Post, join-reads.Asked, join-reads.Learnt, negated-image-below t, negated-image.Post) (equivalent_at t) equivalent.Post
 equivalent-join-requires-3 t c κs =
@@ -461,13 +461,13 @@ equivalent-join-requires-3 t c κs =
     let asks = start.requires.1 in
     let w = read.read-row.result in
     let same = read.read-row.ensures in
-    let first = pair-joins asks w same false start.args.not false in
+    let first = pair_joins asks w same false start.args.not false in
     let x = one.image.ensures in
     let y = two.sided.ensures in
     let l = joined first x (ne_eqb _ 65535 there1.if1.false) y (ne_eqb _ 65535 there2.if2.false) (three.join.ensures _ _ _ refl (y.builds.done (ne_eqb _ 65535 there2.if2.false)).ready) in
     let long = two.sided.auto.1.1.1.1.1.1.1.1.0 ∙ one.image.auto.1.1.1.1.1.1.1.0 in
     let again = asks_second asks l (ne_eqb _ 65535 there3.if3.false) long in
-    let second = pair-joins again w same true (not start.args.not) false in
+    let second = pair_joins again w same true (not start.args.not) false in
     let z = four.negated-image.ensures in
     let v = five.sided2.ensures in
     let r = joined second z (ne_eqb _ 65535 there4.if4.false) v (ne_eqb _ 65535 there5.if5.false) (six.join2.ensures _ _ _ refl (v.builds.done (ne_eqb _ 65535 there5.if5.false)).ready) in
@@ -494,13 +494,13 @@ equivalent-returns-7 t c =
     let asks = start.requires.1 in
     let w = read.read-row.result in
     let same = read.read-row.ensures in
-    let first = pair-joins asks w same false start.args.not false in
+    let first = pair_joins asks w same false start.args.not false in
     let x = one.image.ensures in
     let y = two.sided.ensures in
     let l = joined first x (ne_eqb _ 65535 there1.if1.false) y (ne_eqb _ 65535 there2.if2.false) (three.join.ensures _ _ _ refl (y.builds.done (ne_eqb _ 65535 there2.if2.false)).ready) in
     let long = two.sided.auto.1.1.1.1.1.1.1.1.0 ∙ one.image.auto.1.1.1.1.1.1.1.0 in
     let again = asks_second asks l (ne_eqb _ 65535 there3.if3.false) long in
-    let second = pair-joins again w same true (not start.args.not) false in
+    let second = pair_joins again w same true (not start.args.not) false in
     let z = four.negated-image.ensures in
     let v = five.sided2.ensures in
     let r = joined second z (ne_eqb _ 65535 there4.if4.false) v (ne_eqb _ 65535 there5.if5.false) (six.join2.ensures _ _ _ refl (v.builds.done (ne_eqb _ 65535 there5.if5.false)).ready) in
@@ -532,8 +532,8 @@ pair-sided-requires : (t : ℕ) → pair-lts.Need-sided-requires (read-row-reads
 pair-sided-requires t c κs =
     let read = c.before.before.before.before.before.before in
     let start = read.before.before.before.before.before in (
-      omega (arith, start.requires.0, left-lower start.requires.1 read.read-row.result read.read-row.ensures),
-      asks-left start.requires.1 read.read-row.result read.read-row.ensures,
+      omega (arith, start.requires.0, left_lower start.requires.1 read.read-row.result read.read-row.ensures),
+      asks_left start.requires.1 read.read-row.result read.read-row.ensures,
     )
 
 pair-returns : (t : ℕ) → pair-lts.Need-returns (read-row-reads.Asked, read-row-reads.Learnt, sided-below t, sided.Post, join-reads.Asked, join-reads.Learnt) (pair_at t) pair.Post
@@ -541,7 +541,7 @@ pair-returns t c =
     let left = c.before.before.before.before.before.before.before in
     let read = left.before.before.before.before.before.before.before in
     let start = read.before.before.before.before.before in
-    left-full (pair-joins start.requires.1 read.read-row.result read.read-row.ensures start.args.left start.args.right start.args.or)
+    left_full (pair_joins start.requires.1 read.read-row.result read.read-row.ensures start.args.left start.args.right start.args.or)
     left.sided.ensures (eq-eqb _ 65535 c.if1.true)
 
 pair-sided-requires-2 : (t : ℕ) → pair-lts.Need-sided-requires-2 (read-row-reads.Asked, read-row-reads.Learnt, sided-below t, sided.Post, join-reads.Asked, join-reads.Learnt) (pair_at t) pair.Post
@@ -550,8 +550,8 @@ pair-sided-requires-2 t c κs =
     let left = one.before.before.before.before.before.before.before in
     let read = left.before.before.before.before.before.before.before in
     let start = read.before.before.before.before.before in (
-      omega (arith, start.requires.0, right-lower start.requires.1 read.read-row.result read.read-row.ensures),
-      asks-right start.requires.1 read.read-row.result read.read-row.ensures left.sided.ensures (ne_eqb _ 65535 one.if1.false)
+      omega (arith, start.requires.0, right_lower start.requires.1 read.read-row.result read.read-row.ensures),
+      asks_right start.requires.1 read.read-row.result read.read-row.ensures left.sided.ensures (ne_eqb _ 65535 one.if1.false)
           left.sided.auto.1.1.1.1.1.1.1.1.0,
     )
 
@@ -562,7 +562,7 @@ pair-returns-2 t c =
     let left = one.before.before.before.before.before.before.before in
     let read = left.before.before.before.before.before.before.before in
     let start = read.before.before.before.before.before in
-    right-full (pair-joins start.requires.1 read.read-row.result read.read-row.ensures start.args.left start.args.right start.args.or)
+    right_full (pair_joins start.requires.1 read.read-row.result read.read-row.ensures start.args.left start.args.right start.args.or)
     left.sided.ensures (ne_eqb _ 65535 one.if1.false)
     right.sided2.ensures (eq-eqb _ 65535 c.if2.true)
 
@@ -587,7 +587,7 @@ pair-returns-3 t c =
     let x = left.sided.ensures in
     let y = right.sided2.ensures in
     let e = ne_eqb _ 65535 two.if2.false in
-    joined (pair-joins start.requires.1 read.read-row.result read.read-row.ensures start.args.left start.args.right start.args.or) x
+    joined (pair_joins start.requires.1 read.read-row.result read.read-row.ensures start.args.left start.args.right start.args.or) x
     (ne_eqb _ 65535 one.if1.false) y e (end.join.ensures _ _ _ refl (y.builds.done e).ready)
 
 sided-mul-known : (t : ℕ) → sided-lts.Need-overflow-mul-known (word-of-reads.Asked, word-of-reads.Learnt, build-below t, build.Post) (sided-at t) sided.Post
@@ -628,7 +628,7 @@ step-leaf-requires t c κs =
     let one = c.before.before.before.before in
     let read = one.before.before in
     let start = read.before.before.before.before.before in
-    leaf-ready start.requires.1.asks read.read-row.result read.read-row.ensures one.if1.true
+    leaf_ready start.requires.1.asks read.read-row.result read.read-row.ensures one.if1.true
 
 step-returns : (t : ℕ) → step-lts.Need-returns (read-row-reads.Asked, read-row-reads.Learnt, leaf-reads.Asked, leaf-reads.Learnt, sided-below t, sided.Post, equivalent-below t, equivalent.Post, pair-below t, pair.Post) (step-at t) step.Post
 step-returns t c =
@@ -636,14 +636,14 @@ step-returns t c =
     let one = made.before.before.before.before.before in
     let read = one.before.before in
     let start = read.before.before.before.before.before in
-    leaf-done start.requires.1 read.read-row.result read.read-row.ensures start.args.not one.if1.true made.leaf.ensures
+    leaf_done start.requires.1 read.read-row.result read.read-row.ensures start.args.not one.if1.true made.leaf.ensures
 
 step-sided-requires : (t : ℕ) → step-lts.Need-sided-requires (read-row-reads.Asked, read-row-reads.Learnt, leaf-reads.Asked, leaf-reads.Learnt, sided-below t, sided.Post, equivalent-below t, equivalent.Post, pair-below t, pair.Post) (step-at t) step.Post
 step-sided-requires t c κs =
     let two = c.before.before.before.before.before.before in
     let read = two.before.before.before.before in
     let start = read.before.before.before.before.before in (
-      omega (arith, start.requires.0, negated-operand start.requires.1.asks read.read-row.result read.read-row.ensures two.if2.true),
+      omega (arith, start.requires.0, negated_operand start.requires.1.asks read.read-row.result read.read-row.ensures two.if2.true),
       asks_negated start.requires.1.asks read.read-row.result read.read-row.ensures two.if2.true,
     )
 
@@ -653,14 +653,14 @@ step-returns-2 t c =
     let two = made.before.before.before.before.before.before.before in
     let read = two.before.before.before.before in
     let start = read.before.before.before.before.before in
-    images-as (of-not start.requires.1 read.read-row.result read.read-row.ensures start.args.not two.if2.true) made.sided.ensures
+    images_as (of_not start.requires.1 read.read-row.result read.read-row.ensures start.args.not two.if2.true) made.sided.ensures
 
 step-equivalent-requires : (t : ℕ) → step-lts.Need-equivalent-requires (read-row-reads.Asked, read-row-reads.Learnt, leaf-reads.Asked, leaf-reads.Learnt, sided-below t, sided.Post, equivalent-below t, equivalent.Post, pair-below t, pair.Post) (step-at t) step.Post
 step-equivalent-requires t c κs =
     let two = c.before.before.before.before.before in
     let read = two.before.before.before.before.before.before in
     let start = read.before.before.before.before.before in
-    (omega (arith, start.requires.0), asks-pair start.requires.1.asks read.read-row.result read.read-row.ensures (omega (arith, two.if3.true)))
+    (omega (arith, start.requires.0), asks_pair start.requires.1.asks read.read-row.result read.read-row.ensures (omega (arith, two.if3.true)))
 
 step-returns-3 : (t : ℕ) → step-lts.Need-returns-3 (read-row-reads.Asked, read-row-reads.Learnt, leaf-reads.Asked, leaf-reads.Learnt, sided-below t, sided.Post, equivalent-below t, equivalent.Post, pair-below t, pair.Post) (step-at t) step.Post
 step-returns-3 t c =
@@ -668,7 +668,7 @@ step-returns-3 t c =
     let two = made.before.before.before.before.before.before in
     let read = two.before.before.before.before.before.before in
     let start = read.before.before.before.before.before in
-    images-as (of-equivalent start.requires.1 read.read-row.result read.read-row.ensures start.args.not two.if3.true)
+    images_as (of_equivalent start.requires.1 read.read-row.result read.read-row.ensures start.args.not two.if3.true)
     made.equivalent.ensures
 
 step-pair-requires : (t : ℕ) → step-lts.Need-pair-requires (read-row-reads.Asked, read-row-reads.Learnt, leaf-reads.Asked, leaf-reads.Learnt, sided-below t, sided.Post, equivalent-below t, equivalent.Post, pair-below t, pair.Post) (step-at t) step.Post
@@ -677,7 +677,7 @@ step-pair-requires t c κs =
     let one = two.before.before in
     let read = one.before.before in
     let start = read.before.before.before.before.before in
-    (omega (arith, start.requires.0), asks-pair start.requires.1.asks read.read-row.result read.read-row.ensures (omega (arith, two.if2.false, one.if1.false)))
+    (omega (arith, start.requires.0), asks_pair start.requires.1.asks read.read-row.result read.read-row.ensures (omega (arith, two.if2.false, one.if1.false)))
 
 step-returns-4 : (t : ℕ) → step-lts.Need-returns-4 (read-row-reads.Asked, read-row-reads.Learnt, leaf-reads.Asked, leaf-reads.Learnt, sided-below t, sided.Post, equivalent-below t, equivalent.Post, pair-below t, pair.Post) (step-at t) step.Post
 step-returns-4 t c =
@@ -687,7 +687,7 @@ step-returns-4 t c =
     let one = two.before.before in
     let read = one.before.before in
     let start = read.before.before.before.before.before in
-    images-as
+    images_as
     (of_pair start.requires.1 read.read-row.result read.read-row.ensures start.args.not (omega (arith, two.if2.false, one.if1.false))
     three.if3.false)
     made.pair.ensures

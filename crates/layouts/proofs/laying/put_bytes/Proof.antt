@@ -4,7 +4,7 @@ use native.Mathlib.Omega.{arith}
 use borrow.Author.Rules.{rules}
 use Prim.Native.Nat.{◌+◌, ◌-◌}
 use Rattle.task_writer.proofs.Puts.{put_size}
-use Rattle.layouts.proofs.LayWays.{BytesDone, bytes-begin, bytes-more, bytes-end}
+use Rattle.layouts.proofs.LayWays.{BytesDone, bytes_begin, bytes_more, bytes_end}
 use Rattle.layouts.proofs.laying.put_bytes.Statement.{statement}
 use Rattle.layouts.proofs.laying.put_bytes.Tie as tie
 use Rattle.layouts.proofs.laying.put_bytes.Reads as reads
@@ -19,7 +19,7 @@ decreases-loop bytes count out₀ at i₀ place₀ out i place = count - i
 
 -- src/laying.rt:19:5
 loop-holds : tie.Need-loop-init invariant-loop decreases-loop
-loop-holds c = let a = c.before.before.args in bytes-begin a.bytes.now a.count a.at a.out.now
+loop-holds c = let a = c.before.before.args in bytes_begin a.bytes.now a.count a.at a.out.now
 
 -- src/laying.rt:19:5
 loop-again : tie.Need-loop-preserved invariant-loop decreases-loop
@@ -27,7 +27,7 @@ loop-again c =
     let at-loop-test = c.before.before.before.before.before in
     let at-loop = at-loop-test.before in
     let at-args = at-loop.before.before.before in
-    let a = at-args.args in bytes-more a.bytes.now a.count a.at a.out.now at-loop.loop.out at-loop.loop.i at-loop.loop.place
+    let a = at-args.args in bytes_more a.bytes.now a.count a.at a.out.now at-loop.loop.out at-loop.loop.i at-loop.loop.place
     at-loop.loop.invariant at-loop-test.loop-test.true at-args.requires.0 c.before.before.put_byte.ensures
 
 -- src/laying.rt:13:1
@@ -38,7 +38,7 @@ same_length c = put_size c.before.loop.invariant.done
 returns : tie.Need-returns invariant-loop decreases-loop
 returns c =
     let at-args = c.before.before.before.before in
-    let a = at-args.args in bytes-end a.bytes.now a.count a.at a.out.now c.before.loop.out c.before.loop.i c.before.loop.place
+    let a = at-args.args in bytes_end a.bytes.now a.count a.at a.out.now c.before.loop.out c.before.loop.i c.before.loop.place
     c.before.loop.invariant c.loop-test.false
 
 pub put-bytes-spec : {M : Type 1} → statement M

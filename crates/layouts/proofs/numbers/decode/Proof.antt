@@ -4,7 +4,7 @@ use mathlib.Core.Path.{◌≡◌, refl, sym, ap, ◌∙◌}
 use native.Mathlib.Omega.{arith}
 use Prim.Native.Nat.{◌+◌, ◌-◌, ◌*◌, ◌/◌}
 use lib.ListN.{length}
-use Rattle.layouts.proofs.RunWays.{Decoded, decode-begin, decode-more, decode-end}
+use Rattle.layouts.proofs.RunWays.{Decoded, decode_begin, decode_more, decode_end}
 use borrow.Author.Rules.{rules}
 use Rattle.layouts.proofs.numbers.decode.Statement.{statement}
 use Rattle.layouts.proofs.numbers.decode.Tie as tie
@@ -16,7 +16,7 @@ abbrev decreases-loop : tie.decreases-loop
 decreases-loop sequence numbers₀ count i₀ numbers i = count - i
 
 loop-holds : tie.Need-loop-init invariant-loop decreases-loop
-loop-holds c = let a = c.args in decode-begin a.sequence.now a.numbers.now
+loop-holds c = let a = c.args in decode_begin a.sequence.now a.numbers.now
 
 mul_low : tie.Need-overflow-mul-low invariant-loop decreases-loop
 mul_low c = omega (arith, c.before.before.requires, c.before.before.well-formed, c.before.loop.invariant.within, c.before.loop.invariant.same, c.loop-test.true)
@@ -86,7 +86,7 @@ loop-again : tie.Need-loop-preserved invariant-loop decreases-loop
 loop-again c =
     let at-loop = c.before.before.before in
     let at-args = at-loop.before in
-    let a = at-args.args in decode-more a.sequence.now a.numbers.now at-loop.loop.numbers at-loop.loop.i at-loop.loop.invariant
+    let a = at-args.args in decode_more a.sequence.now a.numbers.now at-loop.loop.numbers at-loop.loop.i at-loop.loop.invariant
     c.before.before.loop-test.true at-args.requires refl
 
 same_length : tie.Need-same-length invariant-loop decreases-loop
@@ -94,7 +94,7 @@ same_length c = c.before.loop.invariant.same
 
 returns : tie.Need-returns invariant-loop decreases-loop
 returns c =
-    let a = c.before.before.args in decode-end a.sequence.now a.numbers.now c.before.loop.numbers c.before.loop.i c.before.loop.invariant
+    let a = c.before.before.args in decode_end a.sequence.now a.numbers.now c.before.loop.numbers c.before.loop.i c.before.loop.invariant
     c.loop-test.false
 
 pub decode-spec : {M : Type 1} → statement M

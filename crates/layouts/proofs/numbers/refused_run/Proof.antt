@@ -2,18 +2,18 @@
 use mathlib.Core.Path.{◌≡◌, refl, sym, ap, ◌∙◌}
 use native.Mathlib.Omega.{arith}
 use borrow.Author.Tests.{not-true, not-false}
-use Rattle.layouts.proofs.RunWays.{wrong-length, wrong-bits, half-number, too_many, no_room, none_refused}
+use Rattle.layouts.proofs.RunWays.{wrong_length, wrong_bits, half-number, too_many, no_room, none_refused}
 use borrow.Author.Rules.{rules}
 use Rattle.layouts.proofs.numbers.refused_run.Statement.{statement}
 use Rattle.layouts.proofs.numbers.refused_run.Tie as tie
 
 returns : tie.Need-returns
-returns c = let a = c.before.before.before.args in wrong-length a.variables a.state.now a.sequence.now a.room c.if1.true
+returns c = let a = c.before.before.before.args in wrong_length a.variables a.state.now a.sequence.now a.room c.if1.true
 
 returns-2 : tie.Need-returns-2
 returns-2 c =
     let at-args = c.before.before.before.before.before in
-    let a = at-args.args in wrong-bits a.variables a.state.now a.sequence.now a.room c.before.before.if1.false c.before.bits.ensures
+    let a = at-args.args in wrong_bits a.variables a.state.now a.sequence.now a.room c.before.before.if1.false c.before.bits.ensures
     (not-true c.before.bits.result c.if2.true)
 
 returns-3 : tie.Need-returns-3

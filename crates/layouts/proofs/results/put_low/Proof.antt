@@ -3,7 +3,7 @@ use mathlib.Core.Path.{◌≡◌, refl, sym, ap, ◌∙◌}
 use native.Mathlib.Omega.{arith}
 use Prim.Native.Nat.{◌+◌, ◌-◌}
 use Rattle.task_writer.proofs.Puts.{put_size}
-use Rattle.layouts.proofs.RunWays.{LowDone, low-begin, low-more, low_end}
+use Rattle.layouts.proofs.RunWays.{LowDone, low_begin, low_more, low_end}
 use borrow.Author.Rules.{rules}
 use Rattle.layouts.proofs.results.put_low.Statement.{statement}
 use Rattle.layouts.proofs.results.put_low.Tie as tie
@@ -15,7 +15,7 @@ abbrev decreases-loop : tie.decreases-loop
 decreases-loop out₀ at count x i₀ rest₀ place₀ out i rest place = count - i
 
 loop-holds : tie.Need-loop-init invariant-loop decreases-loop
-loop-holds c = let a = c.before.args in low-begin a.count a.at a.x a.out.now
+loop-holds c = let a = c.before.args in low_begin a.count a.at a.x a.out.now
 
 put-byte-requires : tie.Need-put-byte-requires invariant-loop decreases-loop
 put-byte-requires c κs =
@@ -41,7 +41,7 @@ loop-again c =
     let at-loop-test = c.before.before.before.before in
     let at-loop = at-loop-test.before in
     let at-args = at-loop.before.before in
-    let a = at-args.args in low-more a.count a.at a.x a.out.now at-loop.loop.out at-loop.loop.i at-loop.loop.rest
+    let a = at-args.args in low_more a.count a.at a.x a.out.now at-loop.loop.out at-loop.loop.i at-loop.loop.rest
     at-loop.loop.place at-loop.loop.invariant at-loop-test.loop-test.true c.before.before.put_byte.ensures
 
 same_length : tie.Need-same-length invariant-loop decreases-loop

@@ -8,7 +8,7 @@ use mathlib.Core.Path.{◌≡◌, refl, ◌∙◌}
 use lib.ListN.{length, length-set}
 use Rattle.formula_builder.specs.Inner.Held.{store, framed}
 use Rattle.operator_guards.specs.Inner.Guarding.{FoundTo}
-use Rattle.operator_guards.proofs.Finding.{found_none, asks-flag, found-over, no_twin, found-more, found_all}
+use Rattle.operator_guards.proofs.Finding.{found_none, asks_flag, found-over, no_twin, found-more, found_all}
 
 abbrev invariant-loop : tie.invariant-loop
 invariant-loop formulas effects notes₀ e frame rows₀ table₀ originals₀ scratch₀ found₀ n twins₀ x₀ notes rows table originals scratch found twins x =
@@ -44,7 +44,7 @@ condition-if-requires c κs =
     let at-loop = at-loop-test.before in
     let at_entry_lem = at-loop.before.before.before.before.before.before.before.before.before in
     let loop = at-loop.loop in
-    asks-flag at_entry_lem.requires loop.invariant.2 loop.invariant.8 (omega (arith, loop.invariant.0, at-loop-test.loop-test.true))
+    asks_flag at_entry_lem.requires loop.invariant.2 loop.invariant.8 (omega (arith, loop.invariant.0, at-loop-test.loop-test.true))
 
 same_length : tie.Need-same-length invariant-loop decreases-loop
 same_length c =

@@ -4,17 +4,17 @@ use Rattle.operator_guards.proofs.build.build_many.Statement.{statement}
 use Rattle.operator_guards.proofs.build.build_many.Tie as tie
 use mathlib.Core.Path.{◌∙◌}
 use borrow.Author.Tests.{not-true, not-false}
-use Rattle.operator_guards.proofs.Built.{finds-sets, finds-first, begins, guards-asks, begin-over, guards-over, built}
+use Rattle.operator_guards.proofs.Built.{finds_sets, finds_first, begins, guards_asks, begin_over, guards_over, built}
 
 find-sets-requires : tie.Need-find-sets-requires
 find-sets-requires c κs =
     let at_entry_lem = c.before.before.before.before.before.before.before.before.before.before.before in
-    finds-sets at_entry_lem.requires
+    finds_sets at_entry_lem.requires
 
 find-first-requires : tie.Need-find-first-requires
 find-first-requires c κs =
     let at_entry_lem = c.before.before.before.before.before.before.before.before.before.before.before.before.before.before.before in
-    finds-first at_entry_lem.requires
+    finds_first at_entry_lem.requires
 
 begin-requires : tie.Need-begin-requires
 begin-requires c κs =
@@ -25,7 +25,7 @@ returns : tie.Need-returns
 returns c =
     let at-begin = c.before.before.before.before.before in
     let begun = at-begin.begin in
-    λ t s. begin-over s begun.ensures (not-true begun.result c.if1.true)
+    λ t s. begin_over s begun.ensures (not-true begun.result c.if1.true)
 
 guard-operators-requires : tie.Need-guard-operators-requires
 guard-operators-requires c κs =
@@ -36,7 +36,7 @@ guard-operators-requires c κs =
     let at_entry_lem = at-find-sets.before.before.before.before.before.before.before.before.before.before.before.before in
     let begun = at-begin.begin in
     let found = at-find-sets.find-sets in
-    guards-asks at_entry_lem.requires found.ensures found.auto.1.1.0 (begun.ensures.done (not-false begun.result at-if1.if1.false)) begun.auto.1.1.1.1.0
+    guards_asks at_entry_lem.requires found.ensures found.auto.1.1.0 (begun.ensures.done (not-false begun.result at-if1.if1.false)) begun.auto.1.1.1.1.0
     at-find-first.find_first.ensures at-find-first.find_first.auto.1.1.1.1.0
 
 same-length-4 : tie.Need-same-length-4
@@ -62,7 +62,7 @@ returns-2 : tie.Need-returns-2
 returns-2 c =
     let at-guard-operators = c.before.before.before.before.before.before.before.before.before.before.before.before in
     let made = at-guard-operators.guard-operators in
-    λ t s. guards-over s made.ensures (not-true made.result c.if2.true)
+    λ t s. guards_over s made.ensures (not-true made.result c.if2.true)
 
 same-length-9 : tie.Need-same-length-9
 same-length-9 c =

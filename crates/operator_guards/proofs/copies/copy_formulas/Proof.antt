@@ -8,7 +8,7 @@ use mathlib.Core.Path.{◌≡◌, refl, ◌∙◌}
 use lib.ListN.{length, set, length-set}
 use Rattle.formula_builder.specs.Inner.Held.{row_of, framed}
 use Rattle.operator_guards.specs.Inner.Copying.{CopiedTo}
-use Rattle.operator_guards.proofs.Copying.{copied_none, copies-row, copied-over, copied-small, copied_more, copied_all}
+use Rattle.operator_guards.proofs.Copying.{copied_none, copies_row, copied-over, copied-small, copied_more, copied_all}
 
 abbrev invariant-loop : tie.invariant-loop
 invariant-loop formulas frame rows₀ table₀ scratch₀ n i₀ rows table scratch i =
@@ -37,7 +37,7 @@ copy-row-requires c κs =
     let at-loop = at-loop-test.before in
     let at_entry_lem = at-loop.before.before.before.before.before in
     let loop = at-loop.loop in
-    copies-row at_entry_lem.requires loop.invariant.3 loop.invariant.4 (omega (arith, loop.invariant.0, at-loop-test.loop-test.true)) (row_of at-read-row.read-row.result) at-read-row.read-row.ensures
+    copies_row at_entry_lem.requires loop.invariant.3 loop.invariant.4 (omega (arith, loop.invariant.0, at-loop-test.loop-test.true)) (row_of at-read-row.read-row.result) at-read-row.read-row.ensures
 
 same_length : tie.Need-same-length invariant-loop decreases-loop
 same_length c = search (rules, c.before.before.before.before.before.before.before.before.before.loop.invariant.2)

@@ -9,14 +9,14 @@ use mathlib.Core.List.{[]}
 use lib.ListN.{get_or}
 use Rattle.formula_builder.specs.Inner.Held.{row_of, framed}
 use Rattle.formula_builder.proofs.Steps.{builds_as, builds_stands}
-use Rattle.operator_guards.proofs.Copying.{copied-constant, copied-variable, copied-not, copied-two}
+use Rattle.operator_guards.proofs.Copying.{copied_constant, copied_variable, copied_not, copied_two}
 
 returns : tie.Need-returns
 returns c =
     let start = c.before.before.before.before in
     let w = start.args.w in
     let scratch = start.args.scratch.now in
-    builds_as (copied-constant (row_of w) (get_or scratch w.a 0 - 1) (get_or scratch w.b 0 - 1) c.if1.true)
+    builds_as (copied_constant (row_of w) (get_or scratch w.a 0 - 1) (get_or scratch w.b 0 - 1) c.if1.true)
     (builds_stands w.kind start.requires.ready (omega (arith, c.if1.true, start.requires.ready.two)))
 
 returns-2 : tie.Need-returns-2
@@ -26,7 +26,7 @@ returns-2 c =
     let start = at-if2.before.before.before.before.before.before in
     let w = start.args.w in
     let scratch = start.args.scratch.now in
-    builds_as (copied-variable (row_of w) (get_or scratch w.a 0 - 1) (get_or scratch w.b 0 - 1) at-if2.if2.true)
+    builds_as (copied_variable (row_of w) (get_or scratch w.a 0 - 1) (get_or scratch w.b 0 - 1) at-if2.if2.true)
     (at_row.row.ensures (framed start.args.frame.now) 0 [] refl start.requires.ready)
 
 shared-slice-read-a : tie.Need-shared-slice-read-a
@@ -52,7 +52,7 @@ returns-3 c =
     let start = at-if3.before.before.before.before.before.before.before.before.before.before in
     let w = start.args.w in
     let scratch = start.args.scratch.now in
-    builds_as (copied-not (row_of w) (get_or scratch w.a 0 - 1) (get_or scratch w.b 0 - 1) at-if3.if3.true)
+    builds_as (copied_not (row_of w) (get_or scratch w.a 0 - 1) (get_or scratch w.b 0 - 1) at-if3.if3.true)
     (at-row2.row2.ensures (framed start.args.frame.now) 0 [] refl start.requires.ready)
 
 shared-slice-read-b : tie.Need-shared-slice-read-b
@@ -83,7 +83,7 @@ returns-4 c =
     let w = start.args.w in
     let scratch = start.args.scratch.now in
     builds_as
-    (copied-two (row_of w) (get_or scratch w.a 0 - 1) (get_or scratch w.b 0 - 1) (omega (arith, at-if1.if1.false)) at-if2.if2.false at-if3.if3.false)
+    (copied_two (row_of w) (get_or scratch w.a 0 - 1) (get_or scratch w.b 0 - 1) (omega (arith, at-if1.if1.false)) at-if2.if2.false at-if3.if3.false)
     (at-row3.row3.ensures (framed start.args.frame.now) 0 [] refl start.requires.ready)
 
 pub copy-row-spec : {M : Type 1} → statement M

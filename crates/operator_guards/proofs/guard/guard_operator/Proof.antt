@@ -4,7 +4,7 @@ use Rattle.operator_guards.proofs.guard.guard_operator.Statement.{statement}
 use Rattle.operator_guards.proofs.guard.guard_operator.Tie as tie
 use native.Mathlib.Omega.{arith}
 use borrow.Author.Tests.{not-true, not-false}
-use Rattle.operator_guards.proofs.Guarding.{asks-words, reaches-words, word_within, word_some, finds, asks-pairs, guarded, conditions-full}
+use Rattle.operator_guards.proofs.Guarding.{asks_words, reaches_words, word_within, word_some, finds, asks_pairs, guarded, conditions_full}
 
 precondition-of-requires : tie.Need-precondition-of-requires
 precondition-of-requires c κs =
@@ -39,7 +39,7 @@ find-conditions-requires c κs =
     let at-effect-of = c.before.before.before.before.before.before.before.before in
     let at-words-of = at-effect-of.before.before in
     let at_entry_lem = at-words-of.before.before.before.before.before.before.before.before.before.before in
-    finds (asks-words at-words-of.words_of.ensures at_entry_lem.requires) at-effect-of.effect_of.result at-effect-of.effect_of.ensures
+    finds (asks_words at-words-of.words_of.ensures at_entry_lem.requires) at-effect-of.effect_of.result at-effect-of.effect_of.ensures
 
 returns : tie.Need-returns
 returns c =
@@ -47,9 +47,9 @@ returns c =
     let at-effect-of = at-find-conditions.before.before.before.before.before.before.before.before.before in
     let at-words-of = at-effect-of.before.before in
     let at_entry_lem = at-words-of.before.before.before.before.before.before.before.before.before.before in
-    let asked = asks-words at-words-of.words_of.ensures at_entry_lem.requires in
-    reaches-words at-words-of.words_of.ensures at_entry_lem.requires
-    (conditions-full asked at-effect-of.effect_of.ensures (not-true _ c.if1.true) at-find-conditions.find-conditions.ensures)
+    let asked = asks_words at-words-of.words_of.ensures at_entry_lem.requires in
+    reaches_words at-words-of.words_of.ensures at_entry_lem.requires
+    (conditions_full asked at-effect-of.effect_of.ensures (not-true _ c.if1.true) at-find-conditions.find-conditions.ensures)
 
 pairs-requires : tie.Need-pairs-requires
 pairs-requires c κs =
@@ -59,9 +59,9 @@ pairs-requires c κs =
     let at-precondition-of = at-effect-of.before in
     let at-words-of = at-precondition-of.before in
     let at_entry_lem = at-words-of.before.before.before.before.before.before.before.before.before.before in
-    let asked = asks-words at-words-of.words_of.ensures at_entry_lem.requires in
+    let asked = asks_words at-words-of.words_of.ensures at_entry_lem.requires in
     let made = at-find-conditions.find-conditions in
-    asks-pairs asked at-effect-of.effect_of.ensures at-precondition-of.precondition_of.ensures (made.ensures.done (not-false _ at-if1.if1.false))
+    asks_pairs asked at-effect-of.effect_of.ensures at-precondition-of.precondition_of.ensures (made.ensures.done (not-false _ at-if1.if1.false))
     (omega (arith, asked.room, made.auto.1.1.1.1.1.1.1.1.1.0))
 
 returns-2 : tie.Need-returns-2
@@ -73,9 +73,9 @@ returns-2 c =
     let at-precondition-of = at-effect-of.before in
     let at-words-of = at-precondition-of.before in
     let at_entry_lem = at-words-of.before.before.before.before.before.before.before.before.before.before in
-    let asked = asks-words at-words-of.words_of.ensures at_entry_lem.requires in
+    let asked = asks_words at-words-of.words_of.ensures at_entry_lem.requires in
     let made = at-find-conditions.find-conditions in
-    reaches-words at-words-of.words_of.ensures at_entry_lem.requires
+    reaches_words at-words-of.words_of.ensures at_entry_lem.requires
     (guarded asked at-effect-of.effect_of.ensures at-precondition-of.precondition_of.ensures (made.ensures.done (not-false _ at-if1.if1.false)) at-pairs.pairs.ensures made.auto.1.1.1.1.1.1.1.1.0)
 
 pub guard-operator-spec : {M : Type 1} → statement M

@@ -11,7 +11,7 @@ use borrow.Author.Tests.{eq-eqb, ne_eqb}
 use Rattle.formula_builder.specs.Inner.Held.{store, sized, stepped, framed, Done}
 use Rattle.formula_builder.proofs.Steps.{builds_as}
 use Rattle.operator_guards.specs.Inner.Pairing.{passing, own_pairs}
-use Rattle.operator_guards.proofs.Stepping.{passing-none, passing-next, pairs-over, pairs_end, own_is, flags-after, flags_below}
+use Rattle.operator_guards.proofs.Stepping.{passing_none, passing_next, pairs_over, pairs_end, own_is, flags_after, flags_below}
 
 abbrev invariant-loop : tie.invariant-loop
 invariant-loop found firsts v p frame rows₀ table₀ q₀ a₀ rows table q a =
@@ -26,7 +26,7 @@ loop-holds c =
     let start = c.before.before.before in (
       omega arith,
       refl,
-      passing-none (own_pairs start.args.firsts.now start.args.found.now) 0 start.args.p start.requires.flags.ready start.requires.flags.row,
+      passing_none (own_pairs start.args.firsts.now start.args.found.now) 0 start.args.p start.requires.flags.ready start.requires.flags.row,
     )
 
 mul-from : tie.Need-overflow-mul-from invariant-loop decreases-loop
@@ -68,7 +68,7 @@ pairs-of-requires c κs =
     let at-loop = at-loop-test.before in
     let start = at-loop.before.before.before.before in
     let loop = at-loop.loop in
-    flags_below (flags-after start.requires.flags loop.invariant.2) (get_or start.args.firsts.now (loop.a + 1) 0)
+    flags_below (flags_after start.requires.flags loop.invariant.2) (get_or start.args.firsts.now (loop.a + 1) 0)
     (start.requires.ends (loop.a + 1) (omega (arith, at-loop-test.loop-test.true)))
 
 same_length : tie.Need-same-length invariant-loop decreases-loop
@@ -81,7 +81,7 @@ returns c =
     let at-loop = at-loop-test.before in
     let start = at-loop.before.before.before.before in
     let loop = at-loop.loop in
-    pairs-over start.args.found.now start.args.p start.args.firsts.now start.args.v loop.a at-loop-test.loop-test.true loop.invariant.2
+    pairs_over start.args.found.now start.args.p start.args.firsts.now start.args.v loop.a at-loop-test.loop-test.true loop.invariant.2
     (builds_as (own_is start.args.firsts.now start.args.found.now loop.a loop.q) at-pairs-of.pairs_of.ensures) (eq-eqb _ 65535 c.if1.true)
 
 add_a : tie.Need-overflow-add-a invariant-loop decreases-loop
@@ -102,7 +102,7 @@ loop-again c =
     let loop = at-loop.loop in (
       omega (arith, at-loop-test.loop-test.true),
       at-pairs-of.pairs_of.auto.1.1.1.1.1.1.0 ∙ loop.invariant.1,
-      passing-next (own_pairs start.args.firsts.now start.args.found.now) 0 start.args.p loop.a (omega arith) loop.invariant.2
+      passing_next (own_pairs start.args.firsts.now start.args.found.now) 0 start.args.p loop.a (omega arith) loop.invariant.2
           (builds_as (own_is start.args.firsts.now start.args.found.now loop.a loop.q) at-pairs-of.pairs_of.ensures) (ne_eqb _ 65535 c.if1.false),
     )
 

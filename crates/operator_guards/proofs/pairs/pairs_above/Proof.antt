@@ -10,7 +10,7 @@ use lib.ListN.{length}
 use borrow.Author.Tests.{eq-eqb, ne_eqb}
 use Rattle.formula_builder.specs.Inner.Held.{store, sized, stepped, framed, Done}
 use Rattle.operator_guards.specs.Inner.Pairing.{passing, with_flag}
-use Rattle.operator_guards.proofs.Stepping.{passing-none, passing-next, above-over, above-end, flags-after, pair-ready}
+use Rattle.operator_guards.proofs.Stepping.{passing_none, passing_next, above_over, above_end, flags_after, pair_ready}
 
 abbrev invariant-loop : tie.invariant-loop
 invariant-loop found x end p frame rows₀ table₀ q₀ y₀ rows table q y =
@@ -31,7 +31,7 @@ loop-holds c =
       omega arith,
       omega (arith, start.requires.1),
       refl,
-      passing-none (with_flag start.args.found.now start.args.x) (start.args.x + 1) start.args.p start.requires.0.ready start.requires.0.row,
+      passing_none (with_flag start.args.found.now start.args.x) (start.args.x + 1) start.args.p start.requires.0.ready start.requires.0.row,
     )
 
 mul-unless-never : tie.Need-overflow-mul-unless-never invariant-loop decreases-loop
@@ -62,7 +62,7 @@ unless-never-requires c κs =
     let at-loop = at-loop-test.before in
     let start = at-loop.before.before.before in
     let loop = at-loop.loop in
-    pair-ready (flags-after start.requires.0 loop.invariant.3) start.args.x loop.y start.requires.1 at-loop-test.loop-test.true
+    pair_ready (flags_after start.requires.0 loop.invariant.3) start.args.x loop.y start.requires.1 at-loop-test.loop-test.true
 
 same_length : tie.Need-same-length invariant-loop decreases-loop
 same_length c = search (rules, c.before.before.before.before.before.before.before.before.before.loop.invariant.2)
@@ -74,7 +74,7 @@ returns c =
     let at-loop = at-loop-test.before in
     let start = at-loop.before.before.before in
     let loop = at-loop.loop in
-    above-over start.args.found.now start.args.p start.args.end start.args.x loop.y loop.invariant.0 at-loop-test.loop-test.true loop.invariant.3
+    above_over start.args.found.now start.args.p start.args.end start.args.x loop.y loop.invariant.0 at-loop-test.loop-test.true loop.invariant.3
     at-unless-never.unless_never.ensures (eq-eqb _ 65535 c.if1.true)
 
 add-y-2 : tie.Need-overflow-add-y-2 invariant-loop decreases-loop
@@ -96,7 +96,7 @@ loop-again c =
       omega (arith, loop.invariant.0),
       omega (arith, at-loop-test.loop-test.true),
       at-unless-never.unless_never.auto.1.1.1.1.1.0 ∙ loop.invariant.2,
-      passing-next (with_flag start.args.found.now start.args.x) (start.args.x + 1) start.args.p loop.y loop.invariant.0 loop.invariant.3
+      passing_next (with_flag start.args.found.now start.args.x) (start.args.x + 1) start.args.p loop.y loop.invariant.0 loop.invariant.3
           at-unless-never.unless_never.ensures (ne_eqb _ 65535 c.if1.false),
     )
 
@@ -108,7 +108,7 @@ returns-2 c =
     let at-loop = c.before in
     let start = at-loop.before.before.before in
     let loop = at-loop.loop in
-    above-end start.args.found.now start.args.p start.args.end start.args.x loop.y (omega (arith, loop.invariant.1)) (omega (arith, c.loop-test.false))
+    above_end start.args.found.now start.args.p start.args.end start.args.x loop.y (omega (arith, loop.invariant.1)) (omega (arith, c.loop-test.false))
     loop.invariant.3
 
 pub pairs-above-spec : {M : Type 1} → statement M

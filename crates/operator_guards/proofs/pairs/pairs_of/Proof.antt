@@ -10,7 +10,7 @@ use lib.ListN.{length}
 use borrow.Author.Tests.{eq-eqb, ne_eqb}
 use Rattle.formula_builder.specs.Inner.Held.{store, sized, stepped, framed, Done}
 use Rattle.operator_guards.specs.Inner.Pairing.{passing, above}
-use Rattle.operator_guards.proofs.Stepping.{passing-none, passing-next, between-over, between-end, flags-after}
+use Rattle.operator_guards.proofs.Stepping.{passing_none, passing_next, between_over, between_end, flags_after}
 
 abbrev invariant-loop : tie.invariant-loop
 invariant-loop found from end p frame rows₀ table₀ q₀ x₀ rows table q x =
@@ -26,7 +26,7 @@ loop-holds c =
       omega arith,
       omega arith,
       refl,
-      passing-none (above start.args.found.now start.args.end) start.args.from start.args.p start.requires.ready start.requires.row,
+      passing_none (above start.args.found.now start.args.end) start.args.from start.args.p start.requires.ready start.requires.row,
     )
 
 pairs-above-requires : tie.Need-pairs-above-requires invariant-loop decreases-loop
@@ -34,7 +34,7 @@ pairs-above-requires c κs =
     let at-loop-test = c.before.before in
     let at-loop = at-loop-test.before in
     let at_entry_lem = at-loop.before.before.before in
-    (flags-after at_entry_lem.requires at-loop.loop.invariant.3, at-loop-test.loop-test.true)
+    (flags_after at_entry_lem.requires at-loop.loop.invariant.3, at-loop-test.loop-test.true)
 
 same_length : tie.Need-same-length invariant-loop decreases-loop
 same_length c = search (rules, c.before.before.before.before.before.before.before.loop.invariant.2)
@@ -46,7 +46,7 @@ returns c =
     let at-loop = at-loop-test.before in
     let start = at-loop.before.before.before in
     let loop = at-loop.loop in
-    between-over start.args.found.now start.args.p start.args.from start.args.end loop.x loop.invariant.0 at-loop-test.loop-test.true loop.invariant.3
+    between_over start.args.found.now start.args.p start.args.from start.args.end loop.x loop.invariant.0 at-loop-test.loop-test.true loop.invariant.3
     at-pairs-above.pairs-above.ensures (eq-eqb _ 65535 c.if1.true)
 
 add-x : tie.Need-overflow-add-x invariant-loop decreases-loop
@@ -68,7 +68,7 @@ loop-again c =
       omega (arith, loop.invariant.0),
       omega (arith, at-loop-test.loop-test.true),
       at-pairs-above.pairs-above.auto.1.1.1.1.1.1.0 ∙ loop.invariant.2,
-      passing-next (above start.args.found.now start.args.end) start.args.from start.args.p loop.x loop.invariant.0 loop.invariant.3
+      passing_next (above start.args.found.now start.args.end) start.args.from start.args.p loop.x loop.invariant.0 loop.invariant.3
           at-pairs-above.pairs-above.ensures (ne_eqb _ 65535 c.if1.false),
     )
 
@@ -80,7 +80,7 @@ returns-2 c =
     let at-loop = c.before in
     let start = at-loop.before.before.before in
     let loop = at-loop.loop in
-    between-end start.args.found.now start.args.p start.args.from start.args.end loop.x loop.invariant.1 (omega (arith, c.loop-test.false)) loop.invariant.3
+    between_end start.args.found.now start.args.p start.args.from start.args.end loop.x loop.invariant.1 (omega (arith, c.loop-test.false)) loop.invariant.3
 
 pub pairs-of-spec : {M : Type 1} → statement M
 pairs-of-spec =

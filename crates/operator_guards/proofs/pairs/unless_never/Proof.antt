@@ -3,7 +3,7 @@ use borrow.Author.Rules.{rules}
 use Rattle.operator_guards.proofs.pairs.unless_never.Statement.{statement}
 use Rattle.operator_guards.proofs.pairs.unless_never.Tie as tie
 use Rattle.formula_builder.proofs.Steps.{builds_as, builds_stands}
-use Rattle.operator_guards.proofs.Stepping.{never_left, never_right, clash-may-be}
+use Rattle.operator_guards.proofs.Stepping.{never_left, never_right, clash_may_be}
 
 returns : tie.Need-returns
 returns c =
@@ -24,7 +24,7 @@ returns-3 c =
     let at-if2 = at-without-both.before.before.before in
     let at-if1 = at-if2.before in
     let start = at-if1.before.before in
-    builds_as (clash-may-be start.args.one start.args.other start.args.p at-if1.if1.false at-if2.if2.false) at-without-both.without_both.ensures
+    builds_as (clash_may_be start.args.one start.args.other start.args.p at-if1.if1.false at-if2.if2.false) at-without-both.without_both.ensures
 
 pub unless-never-spec : {M : Type 1} → statement M
 unless-never-spec =

@@ -5,14 +5,14 @@ use Rattle.operator_guards.proofs.pairs.without_both.Tie as tie
 use mathlib.Core.Path.{refl}
 use mathlib.Core.List.{[]}
 use Rattle.formula_builder.specs.Inner.Held.{framed}
-use Rattle.operator_guards.proofs.Stepping.{next_ready, pair-first, pair-second, pair-asks, pair-whole}
+use Rattle.operator_guards.proofs.Stepping.{next_ready, pair_first, pair_second, pair_asks, pair_whole}
 
 returns : tie.Need-returns
 returns c =
     let at_join = c.before.before.before in
     let start = at_join.before.before.before.before.before in
     let frame = framed start.args.frame.now in
-    pair-first start.args.one start.args.other start.args.p (at_join.join.ensures frame 0 [] refl start.requires.ready) c.if1.true
+    pair_first start.args.one start.args.other start.args.p (at_join.join.ensures frame 0 [] refl start.requires.ready) c.if1.true
 
 row-requires : tie.Need-row-requires
 row-requires c κs =
@@ -31,7 +31,7 @@ returns-2 c =
     let frame = framed start.args.frame.now in
     let first = at_join.join.ensures frame 0 [] refl start.requires.ready in
     let second = at_row.row.ensures frame 0 [] refl (next_ready first at-if1.if1.false) in
-    pair-second start.args.one start.args.other start.args.p first at-if1.if1.false second c.if2.true
+    pair_second start.args.one start.args.other start.args.p first at-if1.if1.false second c.if2.true
 
 join-requires-2 : tie.Need-join-requires-2
 join-requires-2 c κs =
@@ -43,7 +43,7 @@ join-requires-2 c κs =
     let frame = framed start.args.frame.now in
     let first = at_join.join.ensures frame 0 [] refl start.requires.ready in
     let second = at_row.row.ensures frame 0 [] refl (next_ready first at-if1.if1.false) in
-    pair-asks start.args.one start.args.other start.args.p first at-if1.if1.false second at-if2.if2.false start.requires.row
+    pair_asks start.args.one start.args.other start.args.p first at-if1.if1.false second at-if2.if2.false start.requires.row
 
 returns-3 : tie.Need-returns-3
 returns-3 c =
@@ -57,7 +57,7 @@ returns-3 c =
     let first = at_join.join.ensures frame 0 [] refl start.requires.ready in
     let second = at_row.row.ensures frame 0 [] refl (next_ready first at-if1.if1.false) in
     let third = at-join2.join2.ensures frame 0 [] refl (next_ready second at-if2.if2.false) in
-    pair-whole start.args.one start.args.other start.args.p first at-if1.if1.false second at-if2.if2.false third
+    pair_whole start.args.one start.args.other start.args.p first at-if1.if1.false second at-if2.if2.false third
 
 pub without-both-spec : {M : Type 1} → statement M
 without-both-spec =

@@ -2,16 +2,16 @@
 use borrow.Author.Rules.{rules}
 use Rattle.operator_guards.proofs.whole.begin.Statement.{statement}
 use Rattle.operator_guards.proofs.whole.begin.Tie as tie
-use Rattle.operator_guards.proofs.Beginning.{begin-none, begin-empty, begin-copies, begun}
+use Rattle.operator_guards.proofs.Beginning.{begin_none, begin_empty, begin-copies, begun}
 
 returns : tie.Need-returns
-returns c = begin-none c.before.before.before.before.before.requires c.if1.true
+returns c = begin_none c.before.before.before.before.before.requires c.if1.true
 
 first-rows-requires : tie.Need-first-rows-requires
 first-rows-requires c κs =
     let at-if1 = c.before in
     let at_entry_lem = at-if1.before.before.before.before.before in
-    begin-empty at_entry_lem.requires at-if1.if1.false
+    begin_empty at_entry_lem.requires at-if1.if1.false
 
 copy-formulas-requires : tie.Need-copy-formulas-requires
 copy-formulas-requires c κs =

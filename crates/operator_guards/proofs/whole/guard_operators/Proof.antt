@@ -7,7 +7,7 @@ use mathlib.Core.Path.{◌≡◌, refl, ◌∙◌}
 use lib.ListN.{length, get_or}
 use Rattle.formula_builder.specs.Inner.Held.{store}
 use Rattle.operator_guards.specs.Inner.Whole.{GuardedTo}
-use Rattle.operator_guards.proofs.Batching.{next-batch-asks, range-over, range-guarded}
+use Rattle.operator_guards.proofs.Batching.{next_batch_asks, range_over, range_guarded}
 
 abbrev invariant-loop : tie.invariant-loop
 invariant-loop counts formulas effects operators first firsts found₀ notes₀ rows₀ table₀ originals₀ scratch₀ preconditions₀ count o₀ found notes rows table originals scratch preconditions o =
@@ -37,7 +37,7 @@ guard-batch-requires c κs =
     let at-loop = at-loop-test.before in
     let at_entry_lem = at-loop.before.before.before.before.before.before.before.before.before.before.before.before in
     let so_far = at-loop.loop.invariant in
-    next-batch-asks at_entry_lem.requires (omega (arith, so_far.0, at-loop-test.loop-test.true)) so_far.3 so_far.4 so_far.8 so_far.2 so_far.9
+    next_batch_asks at_entry_lem.requires (omega (arith, so_far.0, at-loop-test.loop-test.true)) so_far.3 so_far.4 so_far.8 so_far.2 so_far.9
 
 same_length : tie.Need-same-length invariant-loop decreases-loop
 same_length c =
@@ -78,7 +78,7 @@ same-length-6 c =
 returns : tie.Need-returns invariant-loop decreases-loop
 returns c =
     let at-guard-batch = c.before.before.before.before.before.before.before.before.before.before.before.before.before in
-    range-over (at-guard-batch.guard-batch.ensures.over c.if1.true)
+    range_over (at-guard-batch.guard-batch.ensures.over c.if1.true)
 
 loop-less : tie.Need-loop-smaller invariant-loop decreases-loop
 loop-less c =
@@ -139,7 +139,7 @@ same-length-12 c =
 returns-2 : tie.Need-returns-2 invariant-loop decreases-loop
 returns-2 c =
     let at-loop = c.before in
-    range-guarded at-loop.loop.o (omega (arith, at-loop.loop.invariant.0, at-loop.loop.invariant.1, c.loop-test.false)) at-loop.loop.invariant.9
+    range_guarded at-loop.loop.o (omega (arith, at-loop.loop.invariant.0, at-loop.loop.invariant.1, c.loop-test.false)) at-loop.loop.invariant.9
 
 pub guard-operators-spec : {M : Type 1} → statement M
 guard-operators-spec =

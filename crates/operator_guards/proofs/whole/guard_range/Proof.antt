@@ -7,7 +7,7 @@ use mathlib.Core.Path.{◌≡◌, refl, ◌∙◌}
 use lib.ListN.{length, length-set}
 use Rattle.formula_builder.specs.Inner.Held.{store}
 use Rattle.operator_guards.specs.Inner.Whole.{GuardedTo}
-use Rattle.operator_guards.proofs.Batching.{asks_operator, guarded-more, guarded-over, range-over, range-guarded}
+use Rattle.operator_guards.proofs.Batching.{asks_operator, guarded-more, guarded-over, range_over, range_guarded}
 
 abbrev invariant-loop : tie.invariant-loop
 invariant-loop counts formulas effects operators firsts from end found₀ notes₀ rows₀ table₀ originals₀ scratch₀ preconditions₀ o₀ found notes rows table originals scratch preconditions o =
@@ -79,7 +79,7 @@ returns c =
     let at-loop = at-loop-test.before in
     let at_entry_lem = at-loop.before.before.before.before.before.before.before.before.before.before.before in
     let low : at-loop.loop.o < at_entry_lem.args.counts.operators = omega (arith, at-loop-test.loop-test.true, at_entry_lem.requires.most) in
-    range-over (guarded-over at_entry_lem.requires low at-loop.loop.invariant.7 at-guard-operator.guard-operator.ensures c.if1.true)
+    range_over (guarded-over at_entry_lem.requires low at-loop.loop.invariant.7 at-guard-operator.guard-operator.ensures c.if1.true)
 
 mul-preconditions : tie.Need-overflow-mul-preconditions invariant-loop decreases-loop
 mul-preconditions c =
@@ -158,7 +158,7 @@ same-length-12 c =
 returns-2 : tie.Need-returns-2 invariant-loop decreases-loop
 returns-2 c =
     let at-loop = c.before in
-    range-guarded at-loop.loop.o (omega (arith, at-loop.loop.invariant.0, c.loop-test.false)) at-loop.loop.invariant.7
+    range_guarded at-loop.loop.o (omega (arith, at-loop.loop.invariant.0, c.loop-test.false)) at-loop.loop.invariant.7
 
 pub guard-range-spec : {M : Type 1} → statement M
 guard-range-spec =

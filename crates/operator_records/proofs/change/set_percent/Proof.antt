@@ -49,7 +49,7 @@ use denote.Triple.Table.{entered, cited}
 use denote.Triple.Walked.{says, Stays, stay_slice, stay_none, walk_of, Walks, ends_at, walked, Goes-slice, Goes-none, walk_Meets}
 use Rattle.operator_records.specs.declared.OperatorRecord.{OperatorRecord}
 use Rattle.operator_records.specs.Change.{number_of, with_percent, change, ChangeGives}
-use Rattle.operator_records.proofs.Answers.{within, change-refused, change-made}
+use Rattle.operator_records.proofs.Answers.{within, change-refused, change_made}
 use Rattle.operator_records.specs.contracts.OperatorRecord as R
 use Rattle.operator_records.proofs.OperatorRecord.TheLaws as R'
 use Rattle.operator_records.specs.contracts.change.change_number as core
@@ -228,7 +228,7 @@ module _
           move ! (1 ∷ []) $ drop ! $ owned ! Rec (Is Rec) (LL.makes R.the_type R'.the_plain 𝓛) new _ (made was) $ move ! (1 ∷ 0 ∷ []) $
           elem_put ! Rec full_share ys n new (vals new) b o l $ closes_slice ! tt Rec ys (set ys n new) (length-set ys n new) b o $
           forget ! 3 refl $ forget ! 5 refl $
-          ends (set ys n new) r (eqb r 0) fits (length-set ys n new) (change-made no_record ys n p r is (eqb→eq r 0 zeroed))))
+          ends (set ys n new) r (eqb r 0) fits (length-set ys n new) (change_made no_record ys n p r is (eqb→eq r 0 zeroed))))
           (λ not_zero. skips ! $ exec ! C Λ En mir.t-6 (at_ret En Post) $ refused r fits is not_zero)
 
     module _ (C : Calls 𝓤 H) (Λ : Loops 𝓤 H) (fm : FmC 𝓤 H 𝓛.laws C) (known : Triple 𝓤 (C #operator-records·change·change-number) (Core 𝓛 mem run)) where

@@ -4,7 +4,7 @@ use Rattle.task.proofs.Stores.{cost_among}
 use native.Mathlib.Omega.{arith}
 use mathlib.Core.Path.{refl}
 use Rattle.operator_step.proofs.Taking.{valuable, asked-below, stays, there, conditions-ready, carried-out}
-use Rattle.operator_step.proofs.Scratching.{scratch-stopped, scratch-done}
+use Rattle.operator_step.proofs.Scratching.{scratch_stopped, scratch_done}
 use borrow.Author.Rules.{rules}
 use Rattle.operator_step.proofs.operator.take.Statement.{statement}
 use Rattle.operator_step.proofs.operator.take.Tie as tie
@@ -23,7 +23,7 @@ returns c =
     let p = at-asked.asked.ensures in
     let held = at-holds.holds.ensures in (
       stays start.requires n p held.0 c.before.stop_of.ensures c.if1.true,
-      scratch-stopped n p held.1 c.if1.true,
+      scratch_stopped n p held.1 c.if1.true,
     )
 
 effect-of-requires : tie.Need-effect-of-requires
@@ -87,7 +87,7 @@ returns-2 c =
       rw c.charge_of.ensures
           (carried-out start.requires n p held.ensures.0 at-stop-of.stop_of.ensures at-if1.if1.false held.new.1.1.1.0 same held.ensures.1.known _ _ carried
           (cost_among (λ (x : ℕ). x ≤ 65535) start.args.operators.now n (λ k. omega (arith, at-operators.shared-slice-known3.given k)))),
-      scratch-done n p held.ensures.1 refl (omega (arith, asked-below start.requires n p)) same carried.deciding,
+      scratch_done n p held.ensures.1 refl (omega (arith, asked-below start.requires n p)) same carried.deciding,
     )
 
 pub take_spec : {M : Type 1} → statement M

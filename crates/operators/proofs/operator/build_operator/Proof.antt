@@ -9,7 +9,7 @@ use Rattle.images.proofs.image_from.Reads as image-from-reads
 use Rattle.operators.proofs.walk.build_changes.Reads as build-changes-reads
 use mathlib.Core.Path.{refl, ◌∙◌}
 use Rattle.variable_changes.proofs.Standing.{leaves_full}
-use Rattle.operators.proofs.Walks.{precondition-full, stands_behind, operator-walked}
+use Rattle.operators.proofs.Walks.{precondition_full, stands_behind, operator_walked}
 
 same_length : tie.Need-same-length
 same_length c = c.before.before.before.before.before.before.before.image-from.auto.1.1.1.1.0
@@ -24,7 +24,7 @@ returns : tie.Need-returns
 returns c =
     let at-image-from = c.before.before.before.before.before.before.before in
     let at-args = at-image-from.before.before.before.before.before.before.before.before.before.before.before in (
-      precondition-full at-args.args.frame at-args.args.formulas.now at-args.args.effects.now at-args.args.p at-args.args.e
+      precondition_full at-args.args.frame at-args.args.formulas.now at-args.args.effects.now at-args.args.p at-args.args.e
           at-image-from.image-from.ensures.images c.if1.true refl,
       leaves_full,
     )
@@ -72,7 +72,7 @@ returns-2 c =
     let at-if1 = at-build-changes.before.before.before.before.before.before in
     let at-image-from = at-if1.before.before.before.before.before.before.before in
     let at-args = at-image-from.before.before.before.before.before.before.before.before.before.before.before in (
-      operator-walked at-args.args.frame at-args.args.formulas.now at-args.args.effects.now at-args.args.p at-args.args.e
+      operator_walked at-args.args.frame at-args.args.formulas.now at-args.args.effects.now at-args.args.p at-args.args.e
           at-image-from.image-from.ensures.images at-if1.if1.false at-build-changes.build-changes.ensures.0 refl,
       at-build-changes.build-changes.ensures.1,
     )

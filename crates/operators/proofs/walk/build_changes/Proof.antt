@@ -13,7 +13,7 @@ use mathlib.Core.Path.{◌≡◌, refl, ◌∙◌}
 use native.Mathlib.Omega.{arith}
 use lib.ListN.{length}
 use Rattle.formula_builder.specs.Inner.Held.{store, held}
-use Rattle.operators.proofs.Walks.{change-asks, change-made, looks_on, Walking, walking-begins, walking-asks, walking-keeps, walking-stops, walking-more, walking-ends}
+use Rattle.operators.proofs.Walks.{change_asks, change_made, looks_on, Walking, walking_begins, walking_asks, walking_keeps, walking-stops, walking-more, walking_ends}
 use Rattle.conditions.specs.Inner.Conditions.{Noted}
 use Rattle.variable_changes.proofs.Standing.{leaves_same, leaves_full}
 
@@ -39,7 +39,7 @@ next-touched-requires c κs =
 loop-holds : tie.Need-loop-init invariant-loop decreases-loop
 loop-holds c =
     let at_pre = c.before.before.before.before.before.before.before.before.before.before in
-    (refl, refl, refl, refl, refl, walking-begins at_pre.requires.0 c.next-touched.ensures, at_pre.requires.0.noted)
+    (refl, refl, refl, refl, refl, walking_begins at_pre.requires.0 c.next-touched.ensures, at_pre.requires.0.noted)
 
 cast-variable : tie.Need-overflow-cast-variable invariant-loop decreases-loop
 cast-variable c =
@@ -52,8 +52,8 @@ change-of-requires c κs =
     let at-loop = at-loop-test.before in
     let at-words-of = at-loop.before.before.before in
     let at_pre = at-words-of.before.before.before.before.before.before.before.before in
-    change-asks at-words-of.words_of.ensures _ _
-    (walking-asks at_pre.requires.0 at-loop.loop.invariant.5 at-loop.loop.invariant.6 at-loop.loop.invariant.3 at-loop-test.loop-test.true)
+    change_asks at-words-of.words_of.ensures _ _
+    (walking_asks at_pre.requires.0 at-loop.loop.invariant.5 at-loop.loop.invariant.6 at-loop.loop.invariant.3 at-loop-test.loop-test.true)
 
 same_length : tie.Need-same-length invariant-loop decreases-loop
 same_length c =
@@ -92,7 +92,7 @@ returns c =
     let at-words-of = at-loop.before.before.before in
     let at_pre = at-words-of.before.before.before.before.before.before.before.before in (
       walking-stops at_pre.requires.0 at-loop.loop.invariant.5 at-change-of.change-of.result
-          (change-made at-words-of.words_of.ensures _ _ at-change-of.change-of.ensures).0 at-loop-test.loop-test.true c.if1.true refl,
+          (change_made at-words-of.words_of.ensures _ _ at-change-of.change-of.ensures).0 at-loop-test.loop-test.true c.if1.true refl,
       leaves_full,
     )
 
@@ -100,7 +100,7 @@ keep-change-requires : tie.Need-keep-change-requires invariant-loop decreases-lo
 keep-change-requires c κs =
     let at-loop = c.before.before.before.before.before.before.before.before.before.before.before.before.before.before.before.before.before.before.before in
     let at_pre = at-loop.before.before.before.before.before.before.before.before.before.before.before in
-    walking-keeps at_pre.requires.0 at-loop.loop.invariant.5 at_pre.requires.1 at-loop.loop.invariant.4
+    walking_keeps at_pre.requires.0 at-loop.loop.invariant.5 at_pre.requires.1 at-loop.loop.invariant.4
 
 add-next-touched : tie.Need-overflow-add-next-touched invariant-loop decreases-loop
 add-next-touched c =
@@ -115,7 +115,7 @@ next-touched-requires-2 c κs =
     let at-loop-test = at-change-of.before.before.before.before.before.before.before.before in
     let at-words-of = at-loop-test.before.before.before.before in
     let at_pre = at-words-of.before.before.before.before.before.before.before.before in
-    looks_on at_pre.requires.0 ((change-made at-words-of.words_of.ensures _ _ at-change-of.change-of.ensures).1.noted at-if1.if1.false)
+    looks_on at_pre.requires.0 ((change_made at-words-of.words_of.ensures _ _ at-change-of.change-of.ensures).1.noted at-if1.if1.false)
     (omega (arith, at-loop-test.loop-test.true))
 
 loop-less : tie.Need-loop-smaller invariant-loop decreases-loop
@@ -137,9 +137,9 @@ loop-again c =
       at-change-of.change-of.auto.1.1.1.1.1.1.1.1.1.1.0 ∙ at-loop.loop.invariant.3,
       at-keep-change.keep-change.auto.0 ∙ at-loop.loop.invariant.4,
       walking-more at_pre.requires.0 at-loop.loop.invariant.5 at-change-of.change-of.result
-          (change-made at-words-of.words_of.ensures _ _ at-change-of.change-of.ensures).0 at-if1.if1.false at-keep-change.keep-change.ensures
-          ((change-made at-words-of.words_of.ensures _ _ at-change-of.change-of.ensures).1.noted at-if1.if1.false) c.next-touched2.ensures,
-      (change-made at-words-of.words_of.ensures _ _ at-change-of.change-of.ensures).1.noted at-if1.if1.false,
+          (change_made at-words-of.words_of.ensures _ _ at-change-of.change-of.ensures).0 at-if1.if1.false at-keep-change.keep-change.ensures
+          ((change_made at-words-of.words_of.ensures _ _ at-change-of.change-of.ensures).1.noted at-if1.if1.false) c.next-touched2.ensures,
+      (change_made at-words-of.words_of.ensures _ _ at-change-of.change-of.ensures).1.noted at-if1.if1.false,
     )
 
 same-length-6 : tie.Need-same-length-6 invariant-loop decreases-loop
@@ -160,7 +160,7 @@ same-length-10 c = c.before.loop.invariant.4
 returns-2 : tie.Need-returns-2 invariant-loop decreases-loop
 returns-2 c =
     let at_pre = c.before.before.before.before.before.before.before.before.before.before.before.before in
-    (walking-ends at_pre.requires.0 c.before.loop.invariant.5 (omega (arith, c.loop-test.false)) refl, leaves_same c.before.loop.invariant.6)
+    (walking_ends at_pre.requires.0 c.before.loop.invariant.5 (omega (arith, c.loop-test.false)) refl, leaves_same c.before.loop.invariant.6)
 
 pub build-changes-spec : {M : Type 1} → statement M
 build-changes-spec =

@@ -6,17 +6,17 @@ use Rattle.operators.proofs.walk.passed_at.Tie as tie
 use Rattle.operators.proofs.walk.passed_at.Reads as reads
 use Rattle.operators.proofs.walk.passed_at.Lts as lts
 use Rattle.atom_sets.proofs.set_from.Reads as set-from-reads
-use Rattle.operators.proofs.Passing.{passes-rest, passes-one, passes_none}
+use Rattle.operators.proofs.Passing.{passes_rest, passes_one, passes_none}
 
 returns : tie.Need-returns
 returns c =
     let at-args = c.before.before.before in
-    let a = at-args.args in passes-rest a.frame a.notes.now a.e a.v c.before.set_from.result c.before.set_from.ensures c.if1.true
+    let a = at-args.args in passes_rest a.frame a.notes.now a.e a.v c.before.set_from.result c.before.set_from.ensures c.if1.true
 
 returns-2 : tie.Need-returns-2
 returns-2 c =
     let at-args = c.before.before.before.before in
-    let a = at-args.args in passes-one a.frame a.notes.now a.e a.v c.before.before.set_from.result c.before.before.set_from.ensures
+    let a = at-args.args in passes_one a.frame a.notes.now a.e a.v c.before.before.set_from.result c.before.before.set_from.ensures
     c.if2.true
 
 returns-3 : tie.Need-returns-3

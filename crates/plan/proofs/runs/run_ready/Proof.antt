@@ -8,7 +8,7 @@ use lib.ListN.{length}
 use borrow.Author.Rules.{rules}
 use Rattle.operator_step.specs.Inner.Steps.{running}
 use Rattle.operator_step.proofs.Taking.{valuable, goal_told, ready_again}
-use Rattle.plan.proofs.Running.{Goes, starts, one_more, after-ready, stopped-run, ended-run}
+use Rattle.plan.proofs.Running.{Goes, starts, one_more, after_ready, stopped_run, ended_run}
 
 abbrev invariant-loop : tie.invariant-loop
 invariant-loop head formulas effects operators state₀ sequence scratch₀ goal steps₀ cost₀ state scratch steps cost =
@@ -40,7 +40,7 @@ holds-requires c κs =
     let at-loop = at-loop-test.before in
     let at_pre = at-loop.before.before.before.before.before.before.before.before in
     valuable
-    (ready_again at_pre.requires.0 (after-ready at-loop.loop.invariant.3 (omega (arith, at-loop-test.loop-test.true)) at_take.take.ensures.0)
+    (ready_again at_pre.requires.0 (after_ready at-loop.loop.invariant.3 (omega (arith, at-loop-test.loop-test.true)) at_take.take.ensures.0)
     (at_take.take.auto.1.1.1.1.1.1.0 ∙ at-loop.loop.invariant.2))
     at_pre.requires.0.tables.goal
 
@@ -63,9 +63,9 @@ returns c =
     let at-loop-test = at_take.before.before.before.before in
     let at-loop = at-loop-test.before in
     let at_pre = at-loop.before.before.before.before.before.before.before.before in
-    stopped-run at-loop.loop.invariant.3 (omega (arith, at-loop-test.loop-test.true)) at_take.take.ensures.0 at-if1.if1.true
+    stopped_run at-loop.loop.invariant.3 (omega (arith, at-loop-test.loop-test.true)) at_take.take.ensures.0 at-if1.if1.true
     (c.before.before.holds.ensures.0 ∙ goal_told at_pre.requires.0
-    (after-ready at-loop.loop.invariant.3 (omega (arith, at-loop-test.loop-test.true)) at_take.take.ensures.0))
+    (after_ready at-loop.loop.invariant.3 (omega (arith, at-loop-test.loop-test.true)) at_take.take.ensures.0))
 
 add-cost : tie.Need-overflow-add-cost invariant-loop decreases-loop
 add-cost c =
@@ -100,7 +100,7 @@ returns-2 : tie.Need-returns-2 invariant-loop decreases-loop
 returns-2 c =
     let at-loop = c.before.before.before.before.before.before in
     let at_pre = at-loop.before.before.before.before.before.before.before.before in
-    ended-run at-loop.loop.invariant.3 (omega arith) (c.before.before.holds2.ensures.0 ∙ goal_told at_pre.requires.0 at-loop.loop.invariant.3.state)
+    ended_run at-loop.loop.invariant.3 (omega arith) (c.before.before.holds2.ensures.0 ∙ goal_told at_pre.requires.0 at-loop.loop.invariant.3.state)
 
 pub run-ready-spec : {M : Type 1} → statement M
 run-ready-spec =

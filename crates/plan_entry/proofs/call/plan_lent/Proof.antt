@@ -2,7 +2,7 @@
 -- nothing.
 use lib.ListN.{length}
 use Rattle.task.specs.Table.{lent}
-use Rattle.plan_entry.proofs.PlanWays.{free_of, found, found-plan, not_found}
+use Rattle.plan_entry.proofs.PlanWays.{free_of, found, found_plan, not_found}
 use borrow.Author.Rules.{rules}
 use Rattle.plan_entry.proofs.call.plan_lent.Statement.{statement}
 use Rattle.plan_entry.proofs.call.plan_lent.Tie as tie
@@ -39,7 +39,7 @@ returns-2 c =
     let l = lent a.head a.initial.now a.twins.now a.formulas.now a.effects.now a.operators.now in
     let f = found l a.numbers.now a.scratch.now a.words.now (length a.result.now) at-args.requires
     at-cheapest.cheapest.ensures at-if1.if1.false in
-    found-plan l a.numbers.now a.scratch.now a.words.now (length a.result.now) at-args.requires
+    found_plan l a.numbers.now a.scratch.now a.words.now (length a.result.now) at-args.requires
     at-cheapest.cheapest.ensures (length a.out.now) f at-give-plan.give-plan.ensures
 
 pub plan-lent-spec : {M : Type 1} → statement M

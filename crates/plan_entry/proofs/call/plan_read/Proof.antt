@@ -2,7 +2,7 @@
 use mathlib.Core.Path.{sym, ◌∙◌}
 use lib.ListN.{length}
 use Rattle.task.specs.Table.{lent}
-use Rattle.plan_entry.proofs.PlanWays.{plan-kept, plan-not-begun}
+use Rattle.plan_entry.proofs.PlanWays.{plan_kept, plan_not_begun}
 use borrow.Author.Rules.{rules}
 use Rattle.plan_entry.proofs.call.plan_read.Statement.{statement}
 use Rattle.plan_entry.proofs.call.plan_read.Tie as tie
@@ -15,7 +15,7 @@ returns c =
     let at-args = at-refused-plan.before.before.before.before.before.before.before.before in
     let a = at-args.args in
     let l = lent a.head a.initial.now a.twins.now a.formulas.now a.effects.now a.operators.now in
-    plan-not-begun l (length a.out.now) (length a.result.now) at-args.requires at-refused-plan.refused-plan.ensures at-if1.if1.true at-refuse.refuse.ensures
+    plan_not_begun l (length a.out.now) (length a.result.now) at-args.requires at-refused-plan.refused-plan.ensures at-if1.if1.true at-refuse.refuse.ensures
 
 plan-free-requires : tie.Need-plan-free-requires
 plan-free-requires c κs =
@@ -32,7 +32,7 @@ returns-2 c =
     let at-args = at-refused-plan.before.before.before.before.before.before.before.before in
     let a = at-args.args in
     let l = lent a.head a.initial.now a.twins.now a.formulas.now a.effects.now a.operators.now in
-    plan-kept l (length a.out.now) (length a.result.now) at-args.requires at-refused-plan.refused-plan.ensures at-if1.if1.false at-plan-free.plan-free.ensures
+    plan_kept l (length a.out.now) (length a.result.now) at-args.requires at-refused-plan.refused-plan.ensures at-if1.if1.false at-plan-free.plan-free.ensures
 
 pub plan-read-spec : {M : Type 1} → statement M
 plan-read-spec =

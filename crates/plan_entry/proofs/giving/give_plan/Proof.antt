@@ -1,7 +1,7 @@
 -- `give_plan` meets its contract: the first `steps` numbers and the result, and 0 past them; 23 and all 0 if the numbers do not fit. Assumes nothing.
 use native.Mathlib.Omega.{arith}
 use Rattle.layouts.proofs.RunWays.{low_next}
-use Rattle.plan_entry.proofs.PlanWays.{too_long, gives-plan}
+use Rattle.plan_entry.proofs.PlanWays.{too_long, gives_plan}
 use borrow.Author.Rules.{rules}
 use Rattle.plan_entry.proofs.giving.give_plan.Statement.{statement}
 use Rattle.plan_entry.proofs.giving.give_plan.Tie as tie
@@ -31,7 +31,7 @@ returns-2 c =
     let at-if1 = at-clear-bytes.before.before in
     let at_pre = at-if1.before.before.before.before in
     let a = at_pre.args in
-    gives-plan a.numbers.now a.out.now a.result.now a.steps a.cost at_pre.requires.1 (omega (arith, at-if1.if1.false)) at_pre.requires.2
+    gives_plan a.numbers.now a.out.now a.result.now a.steps a.cost at_pre.requires.1 (omega (arith, at-if1.if1.false)) at_pre.requires.2
     at-clear-bytes.clear-bytes.ensures at-clear-bytes2.clear-bytes2.ensures at-put-words.put-words.ensures at-put-low.put_low.ensures at-put-low2.put-low2.ensures
 
 pub give-plan-spec : {M : Type 1} → statement M

@@ -6,7 +6,7 @@ use borrow.Author.Rules.{rules}
 use borrow.Fn.Kinds.{In}
 use borrow.Fn.PlainCycle.{Measures, is, falls, and}
 use Rattle.printing.proofs.Decimal.{decimal_digit, decimal_more, decimal_short}
-use Rattle.printing.proofs.Puts.{then-put, put_as, put-short, put-length}
+use Rattle.printing.proofs.Puts.{then_put, put_as, put_short, put_length}
 use Rattle.printing.proofs.bytes.number.Reads as number
 use Rattle.printing.proofs.bytes.number.Kinds as number-kinds
 use Rattle.printing.proofs.bytes.+number.Lts-number as number-lts
@@ -71,7 +71,7 @@ number-returns-2 t c =
     let at-number = c.before.before.before.before.before.before in
     let at-if1 = at-number.before.before in
     let at-args = at-if1.before.before in
-    put-short (then-put at-number.number.ensures c.before.before.put2.ensures) (sym (decimal_more at-args.args.n at-if1.if1.false))
+    put_short (then_put at-number.number.ensures c.before.before.put2.ensures) (sym (decimal_more at-args.args.n at-if1.if1.false))
     (decimal_short 4 at-args.args.n (omega (arith, at-args.ranges.n)))
 
 pub +number-spec : {M : Type 1} → statement M

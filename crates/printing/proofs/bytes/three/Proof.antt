@@ -2,7 +2,7 @@
 use native.Mathlib.Omega.{arith}
 use borrow.Author.Rules.{rules}
 use Rattle.printing.specs.Lines.{word}
-use Rattle.printing.proofs.Puts.{then-put, put_as}
+use Rattle.printing.proofs.Puts.{then_put, put_as}
 use Rattle.printing.proofs.Texts.{words_three}
 use Rattle.printing.proofs.bytes.three.Statement.{statement}
 use Rattle.printing.proofs.bytes.three.Tie as tie
@@ -29,7 +29,7 @@ returns c =
     let at-word2 = c.before.before.before.before.before.before in
     let at-word = at-word2.before.before.before.before in
     let at-args = at-word.before.before.before in
-    put_as (then-put (then-put at-word.word.ensures at-word2.word2.ensures) c.before.before.word3.ensures)
+    put_as (then_put (then_put at-word.word.ensures at-word2.word2.ensures) c.before.before.word3.ensures)
     (words_three at-args.args.a at-args.args.b at-args.args.c) (omega arith)
 
 pub three-spec : {M : Type 1} → statement M

@@ -2,7 +2,7 @@
 use native.Mathlib.Omega.{arith}
 use borrow.Author.Rules.{rules}
 use Rattle.printing.specs.Lines.{word}
-use Rattle.printing.proofs.Puts.{then-put}
+use Rattle.printing.proofs.Puts.{then_put}
 use Rattle.printing.proofs.bytes.word.Statement.{statement}
 use Rattle.printing.proofs.bytes.word.Tie as tie
 
@@ -17,7 +17,7 @@ number-requires c κs =
 
 returns : tie.Need-returns
 unfolding word
-returns c = then-put c.before.before.before.before.before.before.put.ensures c.before.before.number.ensures
+returns c = then_put c.before.before.before.before.before.before.put.ensures c.before.before.number.ensures
 
 pub word-spec : {M : Type 1} → statement M
 word-spec =

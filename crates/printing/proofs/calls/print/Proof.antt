@@ -5,7 +5,7 @@ use lib.ListN.{length}
 use borrow.Author.Rules.{rules}
 use Rattle.task.specs.Table.{lent}
 use Rattle.printing.proofs.Puts.{put_on}
-use Rattle.printing.proofs.Settled.{printing-refused, printing-passed}
+use Rattle.printing.proofs.Settled.{printing_refused, printing_passed}
 use Rattle.printing.proofs.calls.print.Statement.{statement}
 use Rattle.printing.proofs.calls.print.Tie as tie
 
@@ -13,7 +13,7 @@ returns : tie.Need-returns
 returns c =
     let at_clear = c.before.before.before.before in
     let at-args = at_clear.before.before.before.before.before.before.before.before in
-    printing-refused
+    printing_refused
     (lent at-args.args.head at-args.args.initial.now at-args.args.twins.now at-args.args.formulas.now at-args.args.effects.now
     at-args.args.operators.now)
     (length at-args.args.out.now) c.before.check.result c.before.check.ensures c.if1.true at_clear.clear.ensures
@@ -28,7 +28,7 @@ returns-2 c =
     let at-check = at-if1.before in
     let at_clear = at-check.before.before.before in
     let at-args = at_clear.before.before.before.before.before.before.before.before in
-    printing-passed
+    printing_passed
     (lent at-args.args.head at-args.args.initial.now at-args.args.twins.now at-args.args.formulas.now at-args.args.effects.now
     at-args.args.operators.now)
     (length at-args.args.out.now) c.before.before.settled.result (sym at-check.check.ensures ∙ at-if1.if1.false)

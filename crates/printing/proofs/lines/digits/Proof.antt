@@ -5,7 +5,7 @@ use mathlib.Core.List.{map}
 use lib.ListN.{take}
 use Rattle.printing.specs.Lines.{digit}
 use Rattle.printing.specs.Inner.Put.{Put}
-use Rattle.printing.proofs.Puts.{nothing_put, then-put, put_as, put-length, put_ends}
+use Rattle.printing.proofs.Puts.{nothing_put, then_put, put_as, put_length, put_ends}
 use Rattle.printing.proofs.Texts.{digits_more}
 use Rattle.printing.proofs.lines.digits.Statement.{statement}
 use Rattle.printing.proofs.lines.digits.Tie as tie
@@ -46,12 +46,12 @@ loop-again c =
     let at-loop = at-loop-test.before in
     let at-args = at-loop.before.before.before in (
       omega (arith, at-loop-test.loop-test.true),
-      put_as (then-put at-loop.loop.invariant.1 c.before.before.put.ensures)
+      put_as (then_put at-loop.loop.invariant.1 c.before.before.put.ensures)
           (digits_more at-args.args.initial.now at-loop.loop.v (omega (arith, at-loop-test.loop-test.true, at-args.requires.long))) (omega arith),
     )
 
 same_length : tie.Need-same-length invariant-loop decreases-loop
-same_length c = put-length c.before.loop.invariant.1
+same_length c = put_length c.before.loop.invariant.1
 
 returns : tie.Need-returns invariant-loop decreases-loop
 returns c =

@@ -1,7 +1,7 @@
 -- `front` meets its contract: lines t, i and w. Assumes nothing.
 use native.Mathlib.Omega.{arith}
 use borrow.Author.Rules.{rules}
-use Rattle.printing.proofs.Puts.{then-put, put_as}
+use Rattle.printing.proofs.Puts.{then_put, put_as}
 use Rattle.printing.proofs.Texts.{front_joined}
 use Rattle.printing.proofs.lines.front.Statement.{statement}
 use Rattle.printing.proofs.lines.front.Tie as tie
@@ -46,7 +46,7 @@ returns c =
     let at-state-line = c.before.before.before.before.before.before.before.before in
     let at-head-line = at-state-line.before.before.before.before.before in
     let at-args = at-head-line.before.before.before.before.before in
-    put_as (then-put (then-put at-head-line.head_line.ensures at-state-line.state-line.ensures) c.before.before.twin_lines.ensures)
+    put_as (then_put (then_put at-head-line.head_line.ensures at-state-line.state-line.ensures) c.before.before.twin_lines.ensures)
     (front_joined at-args.args.head at-args.args.initial.now at-args.args.twins.now)
     (omega (arith, at-args.requires.variables, at-args.requires.twin_count))
 

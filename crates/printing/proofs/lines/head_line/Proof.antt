@@ -1,7 +1,7 @@
 -- `head_line` meets its contract: line t. Assumes nothing.
 use native.Mathlib.Omega.{arith}
 use borrow.Author.Rules.{rules}
-use Rattle.printing.proofs.Puts.{then-put, put_as}
+use Rattle.printing.proofs.Puts.{then_put, put_as}
 use Rattle.printing.proofs.Texts.{line_counts}
 use Rattle.printing.specs.Inner.Put.{counts_of}
 use Rattle.printing.proofs.lines.head_line.Statement.{statement}
@@ -29,7 +29,7 @@ returns c =
     let at-counts = c.before.before.before.before.before.before in
     let at-put = at-counts.before.before.before.before in
     let at-args = at-put.before.before.before in
-    put_as (then-put (then-put at-put.put.ensures at-counts.counts.ensures) c.before.before.put2.ensures)
+    put_as (then_put (then_put at-put.put.ensures at-counts.counts.ensures) c.before.before.put2.ensures)
     (line_counts 116 (counts_of at-args.args.head)) (omega arith)
 
 pub head-line-spec : {M : Type 1} → statement M

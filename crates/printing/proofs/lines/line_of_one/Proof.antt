@@ -1,7 +1,7 @@
 -- `line_of_one` meets its contract: A line of one number. Assumes nothing.
 use native.Mathlib.Omega.{arith}
 use borrow.Author.Rules.{rules}
-use Rattle.printing.proofs.Puts.{then-put, put_as}
+use Rattle.printing.proofs.Puts.{then_put, put_as}
 use Rattle.printing.proofs.Texts.{line_one}
 use Rattle.printing.proofs.lines.line_of_one.Statement.{statement}
 use Rattle.printing.proofs.lines.line_of_one.Tie as tie
@@ -19,7 +19,7 @@ returns : tie.Need-returns
 returns c =
     let at-opening = c.before.before.before.before.before.before in
     let at-args = at-opening.before.before.before in
-    put_as (then-put at-opening.opening.ensures c.before.before.put.ensures) (line_one at-args.args.letter at-args.args.n) (omega arith)
+    put_as (then_put at-opening.opening.ensures c.before.before.put.ensures) (line_one at-args.args.letter at-args.args.n) (omega arith)
 
 pub line-of-one-spec : {M : Type 1} → statement M
 line-of-one-spec =

@@ -2,7 +2,7 @@
 use native.Mathlib.Omega.{arith}
 use borrow.Author.Rules.{rules}
 use Rattle.printing.specs.Lines.{word}
-use Rattle.printing.proofs.Puts.{then-put, put_as}
+use Rattle.printing.proofs.Puts.{then_put, put_as}
 use Rattle.printing.proofs.Texts.{line_two}
 use Rattle.printing.proofs.lines.line_of_two.Statement.{statement}
 use Rattle.printing.proofs.lines.line_of_two.Tie as tie
@@ -35,7 +35,7 @@ returns c =
     let at-word = c.before.before.before.before.before.before in
     let at-opening = at-word.before.before.before.before in
     let at-args = at-opening.before.before.before in
-    put_as (then-put (then-put at-opening.opening.ensures at-word.word.ensures) c.before.before.put.ensures)
+    put_as (then_put (then_put at-opening.opening.ensures at-word.word.ensures) c.before.before.put.ensures)
     (line_two at-args.args.letter at-args.args.n at-args.args.a) (omega arith)
 
 pub line-of-two-spec : {M : Type 1} → statement M

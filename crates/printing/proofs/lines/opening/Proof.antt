@@ -2,7 +2,7 @@
 use native.Mathlib.Omega.{arith}
 use borrow.Author.Rules.{rules}
 use Rattle.printing.specs.Lines.{word}
-use Rattle.printing.proofs.Puts.{then-put}
+use Rattle.printing.proofs.Puts.{then_put}
 use Rattle.printing.proofs.lines.opening.Statement.{statement}
 use Rattle.printing.proofs.lines.opening.Tie as tie
 
@@ -16,7 +16,7 @@ word-requires c κs =
     omega (arith, at_pre.requires, at-put.put.ensures.counted, at-put.put.ensures.short)
 
 returns : tie.Need-returns
-returns c = then-put c.before.before.before.before.before.before.put.ensures c.before.before.word.ensures
+returns c = then_put c.before.before.before.before.before.before.put.ensures c.before.before.word.ensures
 
 pub opening-spec : {M : Type 1} → statement M
 opening-spec =

@@ -2,7 +2,7 @@
 use native.Mathlib.Omega.{arith}
 use borrow.Author.Rules.{rules}
 use Rattle.task.specs.Inner.Tables.{listed}
-use Rattle.printing.proofs.Puts.{then-put, put_as}
+use Rattle.printing.proofs.Puts.{then_put, put_as}
 use Rattle.printing.proofs.Texts.{line_more}
 use Rattle.printing.proofs.lines.row_line.Statement.{statement}
 use Rattle.printing.proofs.lines.row_line.Tie as tie
@@ -35,7 +35,7 @@ returns c =
     let at-row-words = c.before.before.before.before.before.before in
     let at-opening = at-row-words.before.before.before.before in
     let at-args = at-opening.before.before.before in
-    put_as (then-put (then-put at-opening.opening.ensures at-row-words.row_words.ensures) c.before.before.put.ensures)
+    put_as (then_put (then_put at-opening.opening.ensures at-row-words.row_words.ensures) c.before.before.put.ensures)
     (line_more at-args.args.letter at-args.args.n (listed at-args.args.table at-args.args.row)) (omega arith)
 
 pub row-line-spec : {M : Type 1} → statement M

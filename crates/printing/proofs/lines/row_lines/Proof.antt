@@ -7,7 +7,7 @@ use Rattle.task.specs.Bounded.{upto}
 use Rattle.task.proofs.Stores.{row_there}
 use Rattle.printing.specs.Lines.{numbered}
 use Rattle.printing.specs.Inner.Put.{Put, listed_at}
-use Rattle.printing.proofs.Puts.{put-length, put_ends}
+use Rattle.printing.proofs.Puts.{put_length, put_ends}
 use Rattle.printing.proofs.Texts.{rows_none, row_put, rows_more}
 use Rattle.printing.proofs.lines.row_lines.Statement.{statement}
 use Rattle.printing.proofs.lines.row_lines.Tie as tie
@@ -59,7 +59,7 @@ loop-again c =
     )
 
 same_length : tie.Need-same-length invariant-loop decreases-loop
-same_length c = put-length c.before.loop.invariant.1
+same_length c = put_length c.before.loop.invariant.1
 
 returns : tie.Need-returns invariant-loop decreases-loop
 returns c =

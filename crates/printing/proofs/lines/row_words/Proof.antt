@@ -2,7 +2,7 @@
 use native.Mathlib.Omega.{arith}
 use mathlib.Core.Path.{refl}
 use borrow.Author.Rules.{rules}
-use Rattle.printing.proofs.Puts.{then-put, put_as}
+use Rattle.printing.proofs.Puts.{then_put, put_as}
 use Rattle.printing.proofs.Texts.{words_four}
 use Rattle.printing.proofs.lines.row_words.Statement.{statement}
 use Rattle.printing.proofs.lines.row_words.Tie as tie
@@ -28,7 +28,7 @@ returns-3 c =
     let at-three = at-enum-told3.before.before.before.before in
     let row = at-three.before.before.before.args.row in
     rw at-enum-told3.enum-told3.given.1
-    (put_as (then-put at-three.three.ensures c.before.before.word.ensures)
+    (put_as (then_put at-three.three.ensures c.before.before.word.ensures)
     (words_four row.first row.second row.third row.fourth) (omega arith))
 
 pub row-words-spec : {M : Type 1} → statement M

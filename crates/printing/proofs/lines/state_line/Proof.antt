@@ -2,7 +2,7 @@
 use native.Mathlib.Omega.{arith}
 use lib.ListN.{take}
 use borrow.Author.Rules.{rules}
-use Rattle.printing.proofs.Puts.{then-put, put_as}
+use Rattle.printing.proofs.Puts.{then_put, put_as}
 use Rattle.printing.proofs.Texts.{state_text}
 use Rattle.printing.proofs.lines.state_line.Statement.{statement}
 use Rattle.printing.proofs.lines.state_line.Tie as tie
@@ -28,7 +28,7 @@ returns c =
     let at-values = c.before.before.before.before.before.before in
     let at-put = at-values.before.before.before.before in
     let at-args = at-put.before.before.before.before in
-    put_as (then-put (then-put at-put.put.ensures at-values.values.ensures) c.before.before.put2.ensures)
+    put_as (then_put (then_put at-put.put.ensures at-values.values.ensures) c.before.before.put2.ensures)
     (state_text (take at-args.args.count at-args.args.initial.now)) (omega arith)
 
 pub state-line-spec : {M : Type 1} → statement M

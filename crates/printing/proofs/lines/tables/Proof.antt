@@ -1,7 +1,7 @@
 -- `tables` meets its contract: lines f, e and o. Assumes nothing.
 use native.Mathlib.Omega.{arith}
 use borrow.Author.Rules.{rules}
-use Rattle.printing.proofs.Puts.{then-put, put_as}
+use Rattle.printing.proofs.Puts.{then_put, put_as}
 use Rattle.printing.proofs.Texts.{tables_joined}
 use Rattle.printing.proofs.lines.tables.Statement.{statement}
 use Rattle.printing.proofs.lines.tables.Tie as tie
@@ -56,7 +56,7 @@ returns c =
     let at-row-lines2 = c.before.before.before.before.before.before.before in
     let at-row-lines = at-row-lines2.before.before.before.before.before in
     let at-args = at-row-lines.before.before.before.before.before.before.before in
-    put_as (then-put (then-put at-row-lines.row-lines.ensures at-row-lines2.row-lines2.ensures) c.before.before.row-lines3.ensures)
+    put_as (then_put (then_put at-row-lines.row-lines.ensures at-row-lines2.row-lines2.ensures) c.before.before.row-lines3.ensures)
     (tables_joined at-args.args.head at-args.args.formulas.now at-args.args.effects.now at-args.args.operators.now)
     (omega (arith, at-args.requires.formula_count, at-args.requires.effect_count, at-args.requires.operator_count))
 

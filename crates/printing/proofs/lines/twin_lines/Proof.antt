@@ -5,7 +5,7 @@ use mathlib.Core.Path.{refl}
 use Rattle.task.specs.Bounded.{upto}
 use Rattle.printing.specs.Lines.{numbered}
 use Rattle.printing.specs.Inner.Put.{Put, original_at}
-use Rattle.printing.proofs.Puts.{put-length, put_ends}
+use Rattle.printing.proofs.Puts.{put_length, put_ends}
 use Rattle.printing.proofs.Texts.{rows_none, rows_more}
 use Rattle.printing.proofs.lines.twin_lines.Statement.{statement}
 use Rattle.printing.proofs.lines.twin_lines.Tie as tie
@@ -61,7 +61,7 @@ loop-again c =
     )
 
 same_length : tie.Need-same-length invariant-loop decreases-loop
-same_length c = put-length c.before.loop.invariant.1
+same_length c = put_length c.before.loop.invariant.1
 
 returns : tie.Need-returns invariant-loop decreases-loop
 returns c =

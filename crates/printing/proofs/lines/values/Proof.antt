@@ -2,7 +2,7 @@
 use native.Mathlib.Omega.{arith}
 use mathlib.Core.Path.{sym}
 use borrow.Author.Rules.{rules}
-use Rattle.printing.proofs.Puts.{nothing_put, then-put, put_as}
+use Rattle.printing.proofs.Puts.{nothing_put, then_put, put_as}
 use Rattle.printing.proofs.Texts.{values_none, values_some}
 use Rattle.printing.proofs.lines.values.Statement.{statement}
 use Rattle.printing.proofs.lines.values.Tie as tie
@@ -27,7 +27,7 @@ returns-2 c =
     let at-put = c.before.before.before.before.before.before in
     let at-if1 = at-put.before.before in
     let at-args = at-if1.before.before.before in
-    put_as (then-put at-put.put.ensures c.before.before.digits.ensures)
+    put_as (then_put at-put.put.ensures c.before.before.digits.ensures)
     (values_some at-args.args.initial.now at-args.args.count at-if1.if1.false at-args.requires.long) (omega arith)
 
 pub values-spec : {M : Type 1} → statement M

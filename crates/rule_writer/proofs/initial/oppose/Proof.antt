@@ -4,7 +4,7 @@ use Rattle.rule_writer.proofs.initial.oppose.Tie as tie
 use Prim.Native.Nat.{◌-◌}
 use native.Mathlib.Omega.{arith}
 use lib.ListN.{get_or}
-use Rattle.rule_writer.proofs.Values.{Opposed, opposed-none, opposed-more, opposed-all}
+use Rattle.rule_writer.proofs.Values.{Opposed, opposed_none, opposed_more, opposed_all}
 
 abbrev invariant-loop : tie.invariant-loop
 invariant-loop source originals out₀ v w k₀ out k = Opposed source originals out₀ v w out k
@@ -13,7 +13,7 @@ abbrev decreases-loop : tie.decreases-loop
 decreases-loop source originals out₀ v w k₀ out k = w - k
 
 loop-holds : tie.Need-loop-init invariant-loop decreases-loop
-loop-holds c = opposed-none c.args.source.now c.args.originals.now c.args.out.now c.args.v c.args.w c.requires
+loop-holds c = opposed_none c.args.source.now c.args.originals.now c.args.out.now c.args.v c.args.w c.requires
 
 mul-original : tie.Need-overflow-mul-original invariant-loop decreases-loop
 mul-original c =
@@ -57,7 +57,7 @@ loop-again : tie.Need-loop-preserved invariant-loop decreases-loop
 loop-again c =
     let at-loop = c.before.before.before in
     let s = at-loop.before in
-    opposed-more s.args.source.now s.args.originals.now s.args.out.now s.args.v s.args.w s.requires at-loop.loop.out at-loop.loop.k
+    opposed_more s.args.source.now s.args.originals.now s.args.out.now s.args.v s.args.w s.requires at-loop.loop.out at-loop.loop.k
     at-loop.loop.invariant c.before.before.loop-test.true
 
 same_length : tie.Need-same-length invariant-loop decreases-loop
@@ -66,7 +66,7 @@ same_length c = c.before.loop.invariant.same
 returns : tie.Need-returns invariant-loop decreases-loop
 returns c =
     let s = c.before.before in
-    opposed-all s.args.source.now s.args.originals.now s.args.out.now s.args.v s.args.w s.requires c.before.loop.out
+    opposed_all s.args.source.now s.args.originals.now s.args.out.now s.args.v s.args.w s.requires c.before.loop.out
     c.before.loop.k c.before.loop.invariant c.loop-test.false
 
 pub oppose-spec : {M : Type 1} → statement M

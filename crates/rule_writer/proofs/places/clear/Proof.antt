@@ -5,7 +5,7 @@ use Rattle.rule_writer.proofs.places.clear.Reads as reads
 use Rattle.rule_writer.proofs.places.clear.Lts as lts
 use Prim.Native.Nat.{◌-◌}
 use native.Mathlib.Omega.{arith}
-use Rattle.rule_writer.proofs.Placing.{Cleared, cleared_none, cleared_more, cleared-all}
+use Rattle.rule_writer.proofs.Placing.{Cleared, cleared_none, cleared_more, cleared_all}
 
 abbrev invariant-loop : tie.invariant-loop
 invariant-loop places₀ v past i₀ places i = Cleared places₀ v past places i
@@ -38,7 +38,7 @@ same_length c = c.before.loop.invariant.same
 
 returns : tie.Need-returns invariant-loop decreases-loop
 returns c =
-    cleared-all c.before.before.args.places.now c.before.before.args.v c.before.before.args.past c.before.before.requires
+    cleared_all c.before.before.args.places.now c.before.before.args.v c.before.before.args.past c.before.before.requires
     c.before.loop.places c.before.loop.i c.before.loop.invariant c.loop-test.false
 
 pub clear_spec : {M : Type 1} → statement M

@@ -5,7 +5,7 @@ use Rattle.rule_writer.proofs.places.number.Reads as reads
 use Rattle.rule_writer.proofs.places.number.Lts as lts
 use Prim.Native.Nat.{◌-◌}
 use native.Mathlib.Omega.{arith}
-use Rattle.rule_writer.proofs.Placing.{Numbered, numbered_none, numbered_more, numbered-all}
+use Rattle.rule_writer.proofs.Placing.{Numbered, numbered_none, numbered_more, numbered_all}
 
 abbrev invariant-loop : tie.invariant-loop
 invariant-loop originals places₀ v w k₀ places k = Numbered originals places₀ v w places k
@@ -65,7 +65,7 @@ same_length c = c.before.loop.invariant.same
 
 returns : tie.Need-returns invariant-loop decreases-loop
 returns c =
-    numbered-all c.before.before.args.originals.now c.before.before.args.places.now c.before.before.args.v c.before.before.args.w
+    numbered_all c.before.before.args.originals.now c.before.before.args.places.now c.before.before.args.v c.before.before.args.w
     c.before.before.requires.0 c.before.loop.places c.before.loop.k c.before.loop.invariant c.loop-test.false
 
 pub number-spec : {M : Type 1} → statement M

@@ -2,12 +2,12 @@
 use borrow.Author.Rules.{rules}
 use Rattle.rule_writer.proofs.rules.first.Statement.{statement}
 use Rattle.rule_writer.proofs.rules.first.Tie as tie
-use Rattle.rule_writer.proofs.Writing.{first-full, first_done}
+use Rattle.rule_writer.proofs.Writing.{first_full, first_done}
 
 returns : tie.Need-returns
 returns c =
     let s = c.before.before.before in
-    rw c.full.ensures (first-full s.args.room s.args.at s.args.table.now s.args.r s.requires c.before.if1.true)
+    rw c.full.ensures (first_full s.args.room s.args.at s.args.table.now s.args.r s.requires c.before.if1.true)
 
 returns-2 : tie.Need-returns-2
 returns-2 c =

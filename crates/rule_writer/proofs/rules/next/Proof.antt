@@ -2,12 +2,12 @@
 use borrow.Author.Rules.{rules}
 use Rattle.rule_writer.proofs.rules.next.Statement.{statement}
 use Rattle.rule_writer.proofs.rules.next.Tie as tie
-use Rattle.rule_writer.proofs.Writing.{next-full, next-done}
+use Rattle.rule_writer.proofs.Writing.{next_full, next_done}
 
 returns : tie.Need-returns
 returns c =
     let s = c.before.before.before in
-    rw c.full.ensures (next-full s.args.room s.args.at s.args.table.now s.args.r s.requires c.before.if1.true)
+    rw c.full.ensures (next_full s.args.room s.args.at s.args.table.now s.args.r s.requires c.before.if1.true)
 
 returns-2 : tie.Need-returns-2
 returns-2 c =
@@ -15,7 +15,7 @@ returns-2 c =
     let at-if1 = at-conjunct.before.before in
     let s = at-if1.before.before in
     rw (c.before.before.store.ensures, at-conjunct.conjunct.ensures)
-    (next-done s.args.room s.args.at s.args.table.now s.args.r s.requires at-if1.if1.false)
+    (next_done s.args.room s.args.at s.args.table.now s.args.r s.requires at-if1.if1.false)
 
 pub next-spec : {M : Type 1} → statement M
 next-spec =

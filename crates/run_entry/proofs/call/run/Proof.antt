@@ -2,7 +2,7 @@
 -- as it was. Assumes nothing.
 use lib.ListN.{length}
 use Rattle.entry_tables.specs.Own.{small}
-use Rattle.run_entry.proofs.RunWays.{run_settled, not-run, run_again}
+use Rattle.run_entry.proofs.RunWays.{run_settled, not_run, run_again}
 use borrow.Author.Rules.{rules}
 use Rattle.run_entry.proofs.call.run.Statement.{statement}
 use Rattle.run_entry.proofs.call.run.Tie as tie
@@ -21,7 +21,7 @@ returns-3 c =
     let at-run-from-small = at-if2.before.before.before.before.before in
     let at-args = at-run-from-small.before.before.before.before.before.before.before.before in
     let a = at-args.args in run_again a.file.now a.sequence.now
-    (not-run small a.file.now a.state.now a.sequence.now (length a.result.now) at-run-from-small.run-from-small.ensures at-if2.if2.false)
+    (not_run small a.file.now a.state.now a.sequence.now (length a.result.now) at-run-from-small.run-from-small.ensures at-if2.if2.false)
     at-run-from-small.run-from-small.auto.1.1.1.0 at-run-from-full2.run-from-full2.ensures
 
 pub run_spec : {M : Type 1} → statement M

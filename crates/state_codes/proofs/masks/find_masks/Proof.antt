@@ -3,7 +3,7 @@ use mathlib.Core.Path.{◌≡◌}
 use native.Mathlib.Omega.{arith}
 use borrow.Author.Rules.{rules}
 use Prim.Native.Nat.{◌-◌}
-use Rattle.state_codes.proofs.Masking.{Masking, masking_begin, row-ready, masking-more}
+use Rattle.state_codes.proofs.Masking.{Masking, masking_begin, row_ready, masking_more}
 use Rattle.state_codes.proofs.masks.find_masks.Statement.{statement}
 use Rattle.state_codes.proofs.masks.find_masks.Tie as tie
 use Rattle.state_codes.proofs.masks.find_masks.Reads as reads
@@ -24,7 +24,7 @@ loop-holds c =
 
 -- src/masks.rt:30:13
 mask-of-requires : tie.Need-mask-of-requires invariant-loop decreases-loop
-mask-of-requires c κs = row-ready c.before.before.before.before.before.before.requires (omega arith) c.before.before.loop.invariant
+mask-of-requires c κs = row_ready c.before.before.before.before.before.before.requires (omega arith) c.before.before.loop.invariant
 
 -- src/masks.rt:31:9
 mul-masks : tie.Need-overflow-mul-masks invariant-loop decreases-loop
@@ -44,7 +44,7 @@ loop-less c = omega arith
 
 -- src/masks.rt:29:5
 loop-again : tie.Need-loop-preserved invariant-loop decreases-loop
-loop-again c = masking-more c.before.before.before.before.before.before.before.requires (omega arith) c.before.before.before.loop.invariant c.mask-of.ensures
+loop-again c = masking_more c.before.before.before.before.before.before.before.requires (omega arith) c.before.before.before.loop.invariant c.mask-of.ensures
 
 -- src/masks.rt:24:1
 same_length : tie.Need-same-length invariant-loop decreases-loop

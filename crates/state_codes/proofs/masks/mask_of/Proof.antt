@@ -2,7 +2,7 @@
 use native.Mathlib.Omega.{arith}
 use Prim.Native.Nat.{◌+◌, ◌*◌}
 use Rattle.task.specs.Table.{row_at}
-use Rattle.state_codes.proofs.Masking.{empty_row, set-ref, set_row, clear-ref, clear_row, both-refs, both_row, under-refs, under-false, under-true}
+use Rattle.state_codes.proofs.Masking.{empty_row, set_ref, set_row, clear_ref, clear_row, both_refs, both_row, under_refs, under_false, under_true}
 use borrow.Author.Rules.{rules}
 use Rattle.state_codes.proofs.masks.mask_of.Statement.{statement}
 use Rattle.state_codes.proofs.masks.mask_of.Tie as tie
@@ -64,29 +64,29 @@ cast-b c = omega (arith, c.shared-slice-known3.given (3 * c.before.before.before
 -- src/masks.rt:16:19
 cast-result : tie.Need-overflow-cast-result
 unfolding row_at
-cast-result c = omega (arith, set-ref c.before.before.before.before.requires c.match.keys2)
+cast-result c = omega (arith, set_ref c.before.before.before.before.requires c.match.keys2)
 
 -- src/masks.rt:16:14
 shl-result : tie.Need-overflow-shl-result
 unfolding row_at
-shl-result c = omega (arith, set-ref c.before.before.before.before.requires c.match.keys2)
+shl-result c = omega (arith, set_ref c.before.before.before.before.requires c.match.keys2)
 
 -- src/masks.rt:17:23
 cast-result-2 : tie.Need-overflow-cast-result-2
 unfolding row_at
-cast-result-2 c = omega (arith, clear-ref c.before.before.before.before.requires c.match.keys3)
+cast-result-2 c = omega (arith, clear_ref c.before.before.before.before.requires c.match.keys3)
 
 -- src/masks.rt:17:14
 shl-result-2 : tie.Need-overflow-shl-result-2
 unfolding row_at
-shl-result-2 c = omega (arith, clear-ref c.before.before.before.before.requires c.match.keys3)
+shl-result-2 c = omega (arith, clear_ref c.before.before.before.before.requires c.match.keys3)
 
 -- src/masks.rt:18:14
 mul-result : tie.Need-overflow-mul-result
 unfolding row_at
 mul-result c =
     let at_start = c.before.before.before.before in
-    omega (arith, both-refs at_start.requires c.match.keys4, at_start.requires.room, at_start.well-formed)
+    omega (arith, both_refs at_start.requires c.match.keys4, at_start.requires.room, at_start.well-formed)
 
 -- src/masks.rt:18:14
 shared-slice-read-result : tie.Need-shared-slice-read-result
@@ -94,7 +94,7 @@ unfolding row_at
 shared-slice-read-result c =
     let at-match = c.before in
     let at_start = at-match.before.before.before.before in
-    omega (arith, both-refs at_start.requires at-match.match.keys4, at_start.requires.room)
+    omega (arith, both_refs at_start.requires at-match.match.keys4, at_start.requires.room)
 
 -- src/masks.rt:18:25
 mul-result-2 : tie.Need-overflow-mul-result-2
@@ -102,7 +102,7 @@ unfolding row_at
 mul-result-2 c =
     let at-match = c.before in
     let at_start = at-match.before.before.before.before in
-    omega (arith, both-refs at_start.requires at-match.match.keys4, at_start.requires.room, at_start.well-formed)
+    omega (arith, both_refs at_start.requires at-match.match.keys4, at_start.requires.room, at_start.well-formed)
 
 -- src/masks.rt:18:25
 shared-slice-read-result-2 : tie.Need-shared-slice-read-result-2
@@ -110,7 +110,7 @@ unfolding row_at
 shared-slice-read-result-2 c =
     let at-match = c.before.before in
     let at_start = at-match.before.before.before.before in
-    omega (arith, both-refs at_start.requires at-match.match.keys4, at_start.requires.room)
+    omega (arith, both_refs at_start.requires at-match.match.keys4, at_start.requires.room)
 
 -- src/masks.rt:19:17
 shared-slice-read-if1 : tie.Need-shared-slice-read-if1
@@ -119,7 +119,7 @@ shared-slice-read-if1 c =
     let at-match = c.before in
     let at_start = at-match.before.before.before.before in
     let rest = at-match.match.rest in
-    omega (arith, under-refs at_start.requires rest.0.0.0.1 rest.0.0.1 rest.0.1 rest.1, at_start.requires.values_there)
+    omega (arith, under_refs at_start.requires rest.0.0.0.1 rest.0.0.1 rest.0.1 rest.1, at_start.requires.values_there)
 
 -- src/masks.rt:19:45
 mul-result-3 : tie.Need-overflow-mul-result-3
@@ -128,7 +128,7 @@ mul-result-3 c =
     let at-match = c.before.before in
     let at_start = at-match.before.before.before.before in
     let rest = at-match.match.rest in
-    omega (arith, under-refs at_start.requires rest.0.0.0.1 rest.0.0.1 rest.0.1 rest.1, at_start.requires.room, at_start.well-formed)
+    omega (arith, under_refs at_start.requires rest.0.0.0.1 rest.0.0.1 rest.0.1 rest.1, at_start.requires.room, at_start.well-formed)
 
 -- src/masks.rt:19:45
 shared-slice-read-result-3 : tie.Need-shared-slice-read-result-3
@@ -137,7 +137,7 @@ shared-slice-read-result-3 c =
     let at-match = c.before.before.before in
     let at_start = at-match.before.before.before.before in
     let rest = at-match.match.rest in
-    omega (arith, under-refs at_start.requires rest.0.0.0.1 rest.0.0.1 rest.0.1 rest.1, at_start.requires.room)
+    omega (arith, under_refs at_start.requires rest.0.0.0.1 rest.0.0.1 rest.0.1 rest.1, at_start.requires.room)
 
 -- src/masks.rt:7:1
 returns : tie.Need-returns
@@ -166,7 +166,7 @@ returns-5 c =
     let at-match = c.before.before in
     let at_start = at-match.before.before.before.before in
     let rest = at-match.match.rest in
-    under-false at_start.requires rest.0.0.0.1 rest.0.0.1 rest.0.1 rest.1 c.if1.true
+    under_false at_start.requires rest.0.0.0.1 rest.0.0.1 rest.0.1 rest.1 c.if1.true
 
 -- src/masks.rt:7:1
 returns-6 : tie.Need-returns-6
@@ -176,7 +176,7 @@ returns-6 c =
     let at-match = at-if1.before.before in
     let at_start = at-match.before.before.before.before in
     let rest = at-match.match.rest in
-    under-true at_start.requires rest.0.0.0.1 rest.0.0.1 rest.0.1 rest.1 at-if1.if1.false
+    under_true at_start.requires rest.0.0.0.1 rest.0.0.1 rest.0.1 rest.1 at-if1.if1.false
 
 pub mask-of-spec : {M : Type 1} → statement M
 mask-of-spec =

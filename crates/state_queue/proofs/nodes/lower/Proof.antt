@@ -3,7 +3,7 @@ use native.Mathlib.Omega.{arith}
 use Prim.Native.Nat.{◌<◌}
 use borrow.Author.Rules.{rules}
 use Rattle.state_queue.proofs.Playing.{roomy_on}
-use Rattle.state_queue.proofs.Lowering.{Lowering, lowering_begin, beside_bottom, lowering-other, lowering-named, lowering-on, lowered}
+use Rattle.state_queue.proofs.Lowering.{Lowering, lowering_begin, beside_bottom, lowering_other, lowering-named, lowering-on, lowered}
 use Rattle.state_queue.proofs.nodes.lower.Statement.{statement}
 use Rattle.state_queue.proofs.nodes.lower.Tie as tie
 use Rattle.state_queue.proofs.nodes.lower.Reads as reads
@@ -53,7 +53,7 @@ key-of-requires-2 c κs =
     let at-loop = at-sibling.before.before in
     let at_start = at-loop.before.before.before.before in (
       roomy_on at_start.requires.0 at-loop.loop.invariant.playing.long,
-      lowering-other at-loop.loop.invariant (omega arith) at-sibling.sibling.ensures at-winner.winner.ensures,
+      lowering_other at-loop.loop.invariant (omega arith) at-sibling.sibling.ensures at-winner.winner.ensures,
     )
 
 -- src/nodes.rt:109:31

@@ -5,7 +5,7 @@ use native.Mathlib.Omega.{arith}
 use borrow.Author.Rules.{rules}
 use Prim.Native.Nat.{◌≤◌}
 use mathlib.Core.Path.{refl}
-use Rattle.state_queue.proofs.Playing.{Playing, all_played, better_chosen, may-be-set, set-playing}
+use Rattle.state_queue.proofs.Playing.{Playing, all_played, better_chosen, may_be_set, set_playing}
 use Rattle.state_queue.proofs.nodes.set_nodes.Statement.{statement}
 use Rattle.state_queue.proofs.nodes.set_nodes.Tie as tie
 use Rattle.state_queue.proofs.nodes.set_nodes.Reads as reads
@@ -32,7 +32,7 @@ set-node-requires c κs =
     let at-loop = c.before.before.loop in
     let some : 0 < at-loop.node - 1 = omega arith in
     let inner : at-loop.node - 1 < c.before.before.before.before.args.n = omega (arith, at-loop.invariant) in
-    (roomy_on c.before.before.before.before.requires at-loop.invariant.1.long, may-be-set at-loop.invariant.1 some inner (λ c l b. omega arith))
+    (roomy_on c.before.before.before.before.requires at-loop.invariant.1.long, may_be_set at-loop.invariant.1 some inner (λ c l b. omega arith))
 
 -- src/nodes.rt:65:5
 loop-less : tie.Need-loop-smaller invariant-loop decreases-loop
@@ -47,7 +47,7 @@ loop-again c =
     let some : 0 < at-loop.loop.node - 1 = omega arith in
     let inner : at-loop.loop.node - 1 < at_start.args.n = omega (arith, at-loop.loop.invariant) in (
       omega (arith, at-loop.loop.invariant),
-      set-playing at-loop.loop.invariant.1 some inner (λ c l b. omega arith) (roomy_on at_start.requires at-loop.loop.invariant.1.long)
+      set_playing at-loop.loop.invariant.1 some inner (λ c l b. omega arith) (roomy_on at_start.requires at-loop.loop.invariant.1.long)
           (better_chosen _ _ _) at-set-node.set-node.ensures
           (λ c x ne. omega arith),
     )

@@ -3,13 +3,13 @@ use borrow.Author.Rules.{rules}
 use Rattle.stepper.proofs.refusals.refused_early.Statement.{statement}
 use Rattle.stepper.proofs.refusals.refused_early.Tie as tie
 use borrow.Author.Tests.{not-true, not-false}
-use Rattle.stepper.proofs.Refusing.{refused-tables, refused-length, refused-bits, refused-room, not_refused}
+use Rattle.stepper.proofs.Refusing.{refused_tables, refused_length, refused-bits, refused-room, not_refused}
 
 returns : tie.Need-returns
-returns c = refused-tables _ _ _ _ c.before.check.ensures c.if1.true
+returns c = refused_tables _ _ _ _ c.before.check.ensures c.if1.true
 
 returns-2 : tie.Need-returns-2
-returns-2 c = refused-length _ _ _ _ c.before.before.before.check.ensures c.before.before.if1.false c.if2.true
+returns-2 c = refused_length _ _ _ _ c.before.before.before.check.ensures c.before.before.if1.false c.if2.true
 
 returns-3 : tie.Need-returns-3
 returns-3 c =

@@ -4,14 +4,14 @@ use Rattle.stepper.proofs.single.step.Statement.{statement}
 use Rattle.stepper.proofs.single.step.Tie as tie
 use mathlib.Core.Path.{sym, ◌∙◌}
 use Rattle.stepper.proofs.Refusing.{ready}
-use Rattle.stepper.proofs.Calls.{step-refuses, step_gives}
+use Rattle.stepper.proofs.Calls.{step_refuses, step_gives}
 
 returns : tie.Need-returns
 returns c =
     let at-clear-bytes = c.before.before.before in
     let at-if1 = at-clear-bytes.before.before in
     let at-refused-early = at-if1.before in
-    step-refuses _ _ _ _ _ at-refused-early.refused-early.ensures at-if1.if1.true _ _ c.refused.ensures at-clear-bytes.clear-bytes.ensures
+    step_refuses _ _ _ _ _ at-refused-early.refused-early.ensures at-if1.if1.true _ _ c.refused.ensures at-clear-bytes.clear-bytes.ensures
 
 step-ready-requires : tie.Need-step-ready-requires
 step-ready-requires c κs = ready _ _ _ (sym c.before.before.before.refused-early.ensures ∙ c.before.before.if1.false)

@@ -5,10 +5,10 @@ use Rattle.stepper.proofs.single.step_ready.Tie as tie
 use mathlib.Core.Path.{◌∙◌}
 use Rattle.operator_step.proofs.Taking.{valuable, goal_told, ready_again}
 use Rattle.operator_step.proofs.Going.{taken_ready}
-use Rattle.stepper.proofs.Calls.{step-stopped, step-finished}
+use Rattle.stepper.proofs.Calls.{step_stopped, step_finished}
 
 returns : tie.Need-returns
-returns c = step-stopped c.before.before.before.before.before.before.before.take.ensures.0 c.before.if1.true c.refused.ensures
+returns c = step_stopped c.before.before.before.before.before.before.before.take.ensures.0 c.before.if1.true c.refused.ensures
 
 holds-requires : tie.Need-holds-requires
 holds-requires c κs =
@@ -22,7 +22,7 @@ returns-2 c =
     let at-if1 = c.before.before.before.before.before.before in
     let at_take = at-if1.before.before.before.before.before.before in
     let at_pre = at_take.before.before.before.before.before.before.before.before in
-    step-finished at_take.take.ensures.0 at-if1.if1.false
+    step_finished at_take.take.ensures.0 at-if1.if1.false
     (c.before.before.holds.ensures.0 ∙ goal_told at_pre.requires (taken_ready at_take.take.ensures.0 at_pre.requires.state))
 
 pub step-ready-spec : {M : Type 1} → statement M

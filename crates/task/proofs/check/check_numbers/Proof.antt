@@ -2,8 +2,8 @@
 use native.Mathlib.Omega.{arith}
 use mathlib.Core.Path.{◌∙◌}
 use Rattle.task.specs.Check.{initial_kept, twins_kept, formulas_kept, effects_kept, operators_number}
-use Rattle.task.proofs.Passed.{counts_tested, lengths-tested}
-use Rattle.task.proofs.Order.{refused-6, refused-7, refused-5, refused-8, refused-9, refused-10, refused-11, refused-12, rows_one, failed, tested}
+use Rattle.task.proofs.Passed.{counts_tested, lengths_tested}
+use Rattle.task.proofs.Order.{refused_6, refused_7, refused_5, refused_8, refused_9, refused_10, refused-11, refused-12, rows_one, failed, tested}
 use borrow.Author.Rules.{rules}
 use Rattle.task.proofs.check.check_numbers.Statement.{statement}
 use Rattle.task.proofs.check.check_numbers.Tie as tie
@@ -22,7 +22,7 @@ counts-kept-requires c κs = search rules
 
 -- src/check.rt:137:9
 returns : tie.Need-returns
-returns c = refused-6 _ (failed c.before.counts_kept.ensures c.if1.true)
+returns c = refused_6 _ (failed c.before.counts_kept.ensures c.if1.true)
 
 -- src/check.rt:139:9
 goal-kept-requires : tie.Need-goal-kept-requires
@@ -34,7 +34,7 @@ returns-2 c =
     let at-goal-kept = c.before in
     let at-if1 = at-goal-kept.before in
     let at-counts-kept = at-if1.before in
-    refused-7 _ (tested at-counts-kept.counts_kept.ensures at-if1.if1.false) (failed at-goal-kept.goal_kept.ensures c.if2.true)
+    refused_7 _ (tested at-counts-kept.counts_kept.ensures at-if1.if1.false) (failed at-goal-kept.goal_kept.ensures c.if2.true)
 
 -- src/check.rt:142:9
 long-enough-requires : tie.Need-long-enough-requires
@@ -48,7 +48,7 @@ returns-3 c =
     let at-goal-kept = at-if2.before in
     let at-if1 = at-goal-kept.before in
     let at-counts-kept = at-if1.before in
-    refused-5 _ (tested at-counts-kept.counts_kept.ensures at-if1.if1.false) (tested at-goal-kept.goal_kept.ensures at-if2.if2.false)
+    refused_5 _ (tested at-counts-kept.counts_kept.ensures at-if1.if1.false) (tested at-goal-kept.goal_kept.ensures at-if2.if2.false)
     (failed at-long-enough.long_enough.ensures c.if3.true)
 
 -- src/check.rt:145:28
@@ -60,7 +60,7 @@ bits-kept-requires : tie.Need-bits-kept-requires
 bits-kept-requires c κs =
     let at-if3 = c.before in
     let at-long-enough = at-if3.before in
-    ((lengths-tested _).0 (tested at-long-enough.long_enough.ensures at-if3.if3.false)).initial
+    ((lengths_tested _).0 (tested at-long-enough.long_enough.ensures at-if3.if3.false)).initial
 
 -- src/check.rt:146:9
 returns-4 : tie.Need-returns-4
@@ -73,7 +73,7 @@ returns-4 c =
     let at-goal-kept = at-if2.before in
     let at-if1 = at-goal-kept.before in
     let at-counts-kept = at-if1.before in
-    refused-8 _ (tested at-counts-kept.counts_kept.ensures at-if1.if1.false) (tested at-goal-kept.goal_kept.ensures at-if2.if2.false)
+    refused_8 _ (tested at-counts-kept.counts_kept.ensures at-if1.if1.false) (tested at-goal-kept.goal_kept.ensures at-if2.if2.false)
     (tested at-long-enough.long_enough.ensures at-if3.if3.false)
     (failed at-bits-kept.bits-kept.ensures c.if4.true)
 
@@ -103,7 +103,7 @@ twins-kept-requires c κs =
     let at-long-enough = at-if3.before in
     let at-if1 = at-long-enough.before.before.before in
     let at-counts-kept = at-if1.before in
-    let room = (lengths-tested _).0 (tested at-long-enough.long_enough.ensures at-if3.if3.false) in
+    let room = (lengths_tested _).0 (tested at-long-enough.long_enough.ensures at-if3.if3.false) in
     (room.twins, omega (arith, ((counts_tested _).0 (tested at-counts-kept.counts_kept.ensures at-if1.if1.false)).variables))
 
 -- src/check.rt:153:9
@@ -119,7 +119,7 @@ returns-5 c =
     let at-goal-kept = at-if2.before in
     let at-if1 = at-goal-kept.before in
     let at-counts-kept = at-if1.before in
-    refused-9 _ (tested at-counts-kept.counts_kept.ensures at-if1.if1.false) (tested at-goal-kept.goal_kept.ensures at-if2.if2.false)
+    refused_9 _ (tested at-counts-kept.counts_kept.ensures at-if1.if1.false) (tested at-goal-kept.goal_kept.ensures at-if2.if2.false)
     (tested at-long-enough.long_enough.ensures at-if3.if3.false)
     (tested at-bits-kept.bits-kept.ensures at-if4.if4.false) (failed at-twins-kept.twins_kept.ensures c.if5.true)
 
@@ -132,7 +132,7 @@ rows-number-requires : tie.Need-rows-number-requires
 rows-number-requires c κs =
     let at-if3 = c.before.before.before.before.before.before.before.before.before in
     let at-long-enough = at-if3.before in
-    ((lengths-tested _).0 (tested at-long-enough.long_enough.ensures at-if3.if3.false)).formulas
+    ((lengths_tested _).0 (tested at-long-enough.long_enough.ensures at-if3.if3.false)).formulas
 
 -- src/check.rt:157:9
 returns-6 : tie.Need-returns-6
@@ -149,7 +149,7 @@ returns-6 c =
     let at-goal-kept = at-if2.before in
     let at-if1 = at-goal-kept.before in
     let at-counts-kept = at-if1.before in
-    refused-10 _ (tested at-counts-kept.counts_kept.ensures at-if1.if1.false) (tested at-goal-kept.goal_kept.ensures at-if2.if2.false)
+    refused_10 _ (tested at-counts-kept.counts_kept.ensures at-if1.if1.false) (tested at-goal-kept.goal_kept.ensures at-if2.if2.false)
     (tested at-long-enough.long_enough.ensures at-if3.if3.false)
     (tested at-bits-kept.bits-kept.ensures at-if4.if4.false) (tested at-twins-kept.twins_kept.ensures at-if5.if5.false)
     (at-rows-number.rows-number.ensures ∙ rows_one _ _ 10) c.if6.true
@@ -163,7 +163,7 @@ rows-number-requires-2 : tie.Need-rows-number-requires-2
 rows-number-requires-2 c κs =
     let at-if3 = c.before.before.before.before.before.before.before.before.before.before.before.before in
     let at-long-enough = at-if3.before in
-    ((lengths-tested _).0 (tested at-long-enough.long_enough.ensures at-if3.if3.false)).effects
+    ((lengths_tested _).0 (tested at-long-enough.long_enough.ensures at-if3.if3.false)).effects
 
 -- src/check.rt:161:9
 returns-7 : tie.Need-returns-7
@@ -197,7 +197,7 @@ rows-number-requires-3 : tie.Need-rows-number-requires-3
 rows-number-requires-3 c κs =
     let at-if3 = c.before.before.before.before.before.before.before.before.before.before.before.before.before.before.before in
     let at-long-enough = at-if3.before in
-    ((lengths-tested _).0 (tested at-long-enough.long_enough.ensures at-if3.if3.false)).operators
+    ((lengths_tested _).0 (tested at-long-enough.long_enough.ensures at-if3.if3.false)).operators
 
 -- src/check.rt:113:1
 returns-8 : tie.Need-returns-8

@@ -6,8 +6,8 @@ use mathlib.Core.Bool.{true}
 use Rattle.task.specs.Bounded.{every}
 use Rattle.task.specs.Check.{twin_kept}
 use Rattle.task.proofs.Bounded.{every_none, every_more, every_stops, every_ends}
-use Rattle.task.proofs.Refusals.{twin-outside}
-use Rattle.task.proofs.Named.{NamedBy, named_none, named_more, named-before, named_now}
+use Rattle.task.proofs.Refusals.{twin_outside}
+use Rattle.task.proofs.Named.{NamedBy, named_none, named_more, named_before, named_now}
 use Rattle.task.proofs.check.twins_kept.Statement.{statement}
 use Rattle.task.proofs.check.twins_kept.Tie as tie
 
@@ -30,7 +30,7 @@ cast-original : tie.Need-overflow-cast-original invariant-loop decreases-loop
 cast-original c = omega (arith, c.shared-slice-known.given c.before.before.loop.k)
 
 returns : tie.Need-returns invariant-loop decreases-loop
-returns c = every_stops _ _ _ c.before.before.loop-test.true (twin-outside _ _ _ c.if1.true)
+returns c = every_stops _ _ _ c.before.before.loop-test.true (twin_outside _ _ _ c.if1.true)
 
 array-read-if2 : tie.Need-array-read-if2 invariant-loop decreases-loop
 array-read-if2 c = omega (arith, c.if1.false, c.before.before.before.before.requires)
@@ -41,7 +41,7 @@ returns-2 c =
     let at-loop = at-loop-test.before in
     let s = at-loop.before in
     let l = at-loop.loop in every_stops _ _ _ at-loop-test.loop-test.true
-    (named-before s.args.twins.now l.k l.named l.invariant.2 s.args.bound s.requires.1 c.before.if1.false c.if2.true)
+    (named_before s.args.twins.now l.k l.named l.invariant.2 s.args.bound s.requires.1 c.before.if1.false c.if2.true)
 
 array-write-named : tie.Need-array-write-named invariant-loop decreases-loop
 array-write-named c = omega (arith, c.before.if1.false, c.before.before.before.before.before.requires)

@@ -4,7 +4,7 @@ use Rattle.task.proofs.clear.clear_bytes.Tie as tie
 use Prim.Native.Nat.{◌-◌}
 use native.Mathlib.Omega.{arith}
 use lib.ListN.{length}
-use Rattle.task.proofs.Cleared.{Cleared, cleared_none, cleared_more, cleared-all}
+use Rattle.task.proofs.Cleared.{Cleared, cleared_none, cleared_more, cleared_all}
 
 abbrev invariant-loop : tie.invariant-loop
 invariant-loop bytes₀ i₀ bytes i = Cleared bytes₀ bytes i
@@ -31,7 +31,7 @@ same_length c = c.before.loop.invariant.same
 
 returns : tie.Need-returns invariant-loop decreases-loop
 returns c =
-    cleared-all c.before.before.args.bytes.now c.before.loop.bytes c.before.loop.i c.before.loop.invariant
+    cleared_all c.before.before.args.bytes.now c.before.loop.bytes c.before.loop.i c.before.loop.invariant
     c.loop-test.false
 
 pub clear-bytes-spec : {M : Type 1} → statement M

@@ -4,7 +4,7 @@ use Rattle.task.proofs.clear.clear_words.Tie as tie
 use Prim.Native.Nat.{◌-◌}
 use native.Mathlib.Omega.{arith}
 use lib.ListN.{length}
-use Rattle.task.proofs.Cleared.{Cleared, cleared_none, cleared_more, cleared-all}
+use Rattle.task.proofs.Cleared.{Cleared, cleared_none, cleared_more, cleared_all}
 
 abbrev invariant-loop : tie.invariant-loop
 invariant-loop words₀ i₀ words i = Cleared words₀ words i
@@ -34,7 +34,7 @@ same_length c = c.before.loop.invariant.same
 
 returns : tie.Need-returns invariant-loop decreases-loop
 returns c =
-    cleared-all c.before.before.args.words.now c.before.loop.words c.before.loop.i c.before.loop.invariant
+    cleared_all c.before.before.args.words.now c.before.loop.words c.before.loop.i c.before.loop.invariant
     c.loop-test.false
 
 pub clear-words-spec : {M : Type 1} → statement M

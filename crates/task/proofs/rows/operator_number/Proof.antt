@@ -1,7 +1,7 @@
 -- `operator_number` meets its contract: 12, then 24. Assumes nothing.
 use Rattle.task.specs.Check.{percent_kept, operator_number}
 use Rattle.task.proofs.Order.{failed, tested}
-use Rattle.task.proofs.RowRules.{number-12, number-24, number-none}
+use Rattle.task.proofs.RowRules.{number_12, number_24, number_none}
 use borrow.Author.Rules.{rules}
 use Rattle.task.proofs.rows.operator_number.Statement.{statement}
 use Rattle.task.proofs.rows.operator_number.Tie as tie
@@ -15,17 +15,17 @@ operator-kept-requires c κs = search rules
 
 -- src/rows.rt:107:9
 returns : tie.Need-returns
-returns c = number-12 _ _ _ (failed c.before.operator_kept.ensures c.if1.true)
+returns c = number_12 _ _ _ (failed c.before.operator_kept.ensures c.if1.true)
 
 -- src/rows.rt:110:9
 returns-2 : tie.Need-returns-2
 returns-2 c =
-    number-24 _ _ _ (tested c.before.before.operator_kept.ensures c.before.if1.false) c.if2.true
+    number_24 _ _ _ (tested c.before.before.operator_kept.ensures c.before.if1.false) c.if2.true
 
 -- src/rows.rt:89:1
 returns-3 : tie.Need-returns-3
 returns-3 c =
-    number-none _ _ _ (tested c.before.before.operator_kept.ensures c.before.if1.false) c.if2.false
+    number_none _ _ _ (tested c.before.before.operator_kept.ensures c.before.if1.false) c.if2.false
 
 pub operator-number-spec : {M : Type 1} → statement M
 operator-number-spec = tie.close (tie.spec operator-kept-requires returns returns-2 returns-3)

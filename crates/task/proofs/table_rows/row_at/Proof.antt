@@ -13,7 +13,7 @@ operator-at-requires : tie.Need-operator-at-requires
 operator-at-requires c κs = rw c.enum-told3.given.1 at c.before.before.before.requires
 
 returns : tie.Need-returns
-returns c = rw c.before.enum_told.given.1 c.three-at.ensures
+returns c = rw c.before.enum_told.given.1 c.three_at.ensures
 
 returns-2 : tie.Need-returns-2
 returns-2 c = rw c.before.enum-told2.given.1 c.three-at2.ensures

@@ -1,6 +1,6 @@
 -- `fill_rows` meets its contract: the three tables of rows, one after the other. Assumes nothing.
 use mathlib.Core.Path.{◌≡◌, refl, sym, ap, ◌∙◌}
-use Rattle.task_file.proofs.FillWays.{formulas-lost, effects-lost, rows-filled}
+use Rattle.task_file.proofs.FillWays.{formulas_lost, effects_lost, rows-filled}
 use borrow.Author.Rules.{rules}
 use Rattle.task_file.proofs.fill.fill_rows.Statement.{statement}
 use Rattle.task_file.proofs.fill.fill_rows.Tie as tie
@@ -17,7 +17,7 @@ returns : tie.Need-returns
 returns c =
     let at-read-rows = c.before.before.before.before in
     let at-args = at-read-rows.before.before.before.before.before.before.before in
-    let a = at-args.args in formulas-lost a.head a.file.now a.at a.formulas.now a.effects.now a.operators.now
+    let a = at-args.args in formulas_lost a.head a.file.now a.at a.formulas.now a.effects.now a.operators.now
     at-read-rows.read-rows.ensures c.enum_told.given.1
 
 -- src/fill.rt:21:9
@@ -37,7 +37,7 @@ returns-2 c =
     let at_f = at-read-rows2.before.before.before.before in
     let at-read-rows = at_f.before.before.before.before in
     let at-args = at-read-rows.before.before.before.before.before.before.before in
-    let a = at-args.args in effects-lost a.head a.file.now a.at a.formulas.now a.effects.now a.operators.now
+    let a = at-args.args in effects_lost a.head a.file.now a.at a.formulas.now a.effects.now a.operators.now
     at-read-rows.read-rows.ensures at_f.f.given.1 at-read-rows2.read-rows2.ensures c.enum-told2.given.1
 
 -- src/fill.rt:11:1

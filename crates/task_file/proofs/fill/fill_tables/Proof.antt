@@ -1,6 +1,6 @@
 -- `fill_tables` meets its contract: all that stands behind the head. Assumes nothing.
 use mathlib.Core.Path.{◌≡◌, refl, sym, ap, ◌∙◌}
-use Rattle.task_file.proofs.FillWays.{initial-lost, twins-lost, all-filled}
+use Rattle.task_file.proofs.FillWays.{initial_lost, twins_lost, all-filled}
 use borrow.Author.Rules.{rules}
 use Rattle.task_file.proofs.fill.fill_tables.Statement.{statement}
 use Rattle.task_file.proofs.fill.fill_tables.Tie as tie
@@ -19,7 +19,7 @@ returns : tie.Need-returns
 returns c =
     let at-read-state = c.before.before.before.before in
     let at-args = at-read-state.before.before.before.before.before.before.before.before.before in
-    let a = at-args.args in initial-lost a.head a.file.now a.at a.initial.now a.twins.now a.formulas.now a.effects.now
+    let a = at-args.args in initial_lost a.head a.file.now a.at a.initial.now a.twins.now a.formulas.now a.effects.now
     a.operators.now at-read-state.read-state.ensures c.enum_told.given.1
 
 -- src/fill.rt:47:9
@@ -39,7 +39,7 @@ returns-2 c =
     let at-s = at-read-twins.before.before.before.before.before.before in
     let at-read-state = at-s.before.before.before.before in
     let at-args = at-read-state.before.before.before.before.before.before.before.before.before in
-    let a = at-args.args in twins-lost a.head a.file.now a.at a.initial.now a.twins.now a.formulas.now a.effects.now
+    let a = at-args.args in twins_lost a.head a.file.now a.at a.initial.now a.twins.now a.formulas.now a.effects.now
     a.operators.now at-read-state.read-state.ensures at-s.s.given.1 at-read-twins.read-twins.ensures c.enum-told2.given.1
 
 -- src/fill.rt:49:5

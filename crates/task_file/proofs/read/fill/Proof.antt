@@ -3,7 +3,7 @@ use mathlib.Core.Path.{◌≡◌, refl, sym, ap, ◌∙◌}
 use lib.ListN.{length}
 use Rattle.task_file.specs.Inner.Answers.{head_told, no_task, lost_place}
 use Rattle.task_file.specs.Outcome.{lengths}
-use Rattle.task_file.proofs.ReadWays.{bytes_from, head-room, head-lost, table-lost, bytes_left, task-held, room_kept}
+use Rattle.task_file.proofs.ReadWays.{bytes_from, head_room, head_lost, table-lost, bytes_left, task-held, room_kept}
 use borrow.Author.Rules.{rules}
 use Rattle.task_file.proofs.read.fill.Statement.{statement}
 use Rattle.task_file.proofs.read.fill.Tie as tie
@@ -21,7 +21,7 @@ returns c =
     let at-args = at-read-kept-head.before.before.before.before.before.before.before in
     let a = at-args.args in let file = a.file.now in let l =
     (lengths (length a.initial.now) (length a.twins.now) (length a.formulas.now) (length a.effects.now) (length a.operators.now)) in
-    head-lost l file (sym at-read-kept-head.read-kept-head.ensures ∙ ap (head_told file) c.before.enum_told.given.1)
+    head_lost l file (sym at-read-kept-head.read-kept-head.ensures ∙ ap (head_told file) c.before.enum_told.given.1)
     (c.no_head.ensures ∙ ap no_task c.before.enum_told.given.1)
 
 -- src/read.rt:45:9
@@ -32,7 +32,7 @@ fill-tables-requires c κs =
     let at-args = at-read-kept-head.before.before.before.before.before.before.before in
     let a = at-args.args in let file = a.file.now in let l =
     (lengths (length a.initial.now) (length a.twins.now) (length a.formulas.now) (length a.effects.now) (length a.operators.now)) in
-    head-room l file (sym at-read-kept-head.read-kept-head.ensures ∙ ap (head_told file) at-h.h.given.1) refl
+    head_room l file (sym at-read-kept-head.read-kept-head.ensures ∙ ap (head_told file) at-h.h.given.1) refl
 
 -- src/read.rt:47:9
 same_length : tie.Need-same-length
@@ -165,7 +165,7 @@ returns-4 c =
     at-fill-tables.fill-tables.new.1.1.1.1.1.1.0 at-fill-tables.fill-tables.new.1.1.1.1.1.1.1.0
     at-fill-tables.fill-tables.auto.1.1.1.0 at-fill-tables.fill-tables.auto.1.1.1.1.0 at-fill-tables.fill-tables.auto.1.1.1.1.1.0
     at-fill-tables.fill-tables.auto.1.1.1.1.1.1.0 at-fill-tables.fill-tables.auto.1.1.1.1.1.1.1.0
-    (head-room l file (sym at-read-kept-head.read-kept-head.ensures ∙ ap (head_told file) at-h.h.given.1) refl))
+    (head_room l file (sym at-read-kept-head.read-kept-head.ensures ∙ ap (head_told file) at-h.h.given.1) refl))
 
 pub fill_spec : {M : Type 1} → statement M
 fill_spec =

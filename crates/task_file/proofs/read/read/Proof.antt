@@ -1,6 +1,6 @@
 -- `read` meets its contract: reads a task file into lent tables. Assumes nothing.
 use mathlib.Core.Path.{◌≡◌, refl, sym, ap, ◌∙◌}
-use Rattle.task_file.proofs.ReadWays.{read_held, read-lost}
+use Rattle.task_file.proofs.ReadWays.{read_held, read_lost}
 use borrow.Author.Rules.{rules}
 use Rattle.task_file.proofs.read.read.Statement.{statement}
 use Rattle.task_file.proofs.read.read.Tie as tie
@@ -56,7 +56,7 @@ returns c =
     let at-enum-told = at-clear-tables2.before.before.before.before.before.before in
     let at_fill_lem = at-enum-told.before.before.before.before.before.before.before.before.before.before.before.before in
     let at-clear-tables = at_fill_lem.before.before.before.before.before.before.before.before.before.before.before.before.before.before.before.before in
-    read-lost at-clear-tables.clear-tables.ensures at_fill_lem.fill.ensures at-enum-told.enum_told.given.1 at-clear-tables2.clear-tables2.ensures
+    read_lost at-clear-tables.clear-tables.ensures at_fill_lem.fill.ensures at-enum-told.enum_told.given.1 at-clear-tables2.clear-tables2.ensures
     at_fill_lem.fill.auto.1.0 at_fill_lem.fill.auto.1.1.0 at_fill_lem.fill.auto.1.1.1.0 at_fill_lem.fill.auto.1.1.1.1.0
     at_fill_lem.fill.auto.1.1.1.1.1.0
 

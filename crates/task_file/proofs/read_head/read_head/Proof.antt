@@ -2,7 +2,7 @@
 use mathlib.Core.Path.{◌≡◌, refl, sym, ap, ◌∙◌}
 use native.Mathlib.Omega.{arith}
 use Rattle.task_file.specs.Inner.Answers.{fields_told, head_told, lost_head}
-use Rattle.task_file.proofs.HeadWays.{head_ends, head-unclear, lower-refused, upper-refused, head_there, pos}
+use Rattle.task_file.proofs.HeadWays.{head_ends, head_unclear, lower_refused, upper-refused, head_there, pos}
 use borrow.Author.Rules.{rules}
 use Rattle.task_file.proofs.read_head.read_head.Statement.{statement}
 use Rattle.task_file.proofs.read_head.read_head.Tie as tie
@@ -17,7 +17,7 @@ returns c = let f = c.before.before.args.file.now in sym (head_ends f c.if1.true
 
 -- src/read_head.rt:29:9
 returns-2 : tie.Need-returns-2
-returns-2 c = let f = c.before.before.before.before.args.file.now in sym (head-unclear f (pos c.before.before.if1.false) c.if2.true)
+returns-2 c = let f = c.before.before.before.before.args.file.now in sym (head_unclear f (pos c.before.before.if1.false) c.if2.true)
 
 -- src/read_head.rt:33:9
 returns-3 : tie.Need-returns-3
@@ -27,7 +27,7 @@ returns-3 c =
     let at-if1 = at-if2.before.before in
     let at-args = at-if1.before.before in
     let f = at-args.args.file.now in ap (head_told f) (c.refused.ensures ∙ ap lost_head c.before.enum_told.given.1) ∙ sym
-    (lower-refused f (pos at-if1.if1.false) at-if2.if2.false (sym at-read-three.read-three.ensures ∙ ap (fields_told f) c.before.enum_told.given.1))
+    (lower_refused f (pos at-if1.if1.false) at-if2.if2.false (sym at-read-three.read-three.ensures ∙ ap (fields_told f) c.before.enum_told.given.1))
 
 -- src/read_head.rt:37:9
 returns-4 : tie.Need-returns-4

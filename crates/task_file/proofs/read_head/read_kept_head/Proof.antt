@@ -3,7 +3,7 @@ use mathlib.Core.Path.{◌≡◌, refl, sym, ap, ◌∙◌}
 use borrow.Author.Tests.{not-true, not-false}
 use Rattle.task_file.specs.Inner.Answers.{head_told}
 use Rattle.task_file.specs.Outcome.{lengths}
-use Rattle.task_file.proofs.HeadWays.{no_head, six, seven, five, all-kept}
+use Rattle.task_file.proofs.HeadWays.{no_head, six, seven, five, all_kept}
 use borrow.Author.Rules.{rules}
 use Rattle.task_file.proofs.read_head.read_kept_head.Statement.{statement}
 use Rattle.task_file.proofs.read_head.read_kept_head.Tie as tie
@@ -65,7 +65,7 @@ returns-5 c =
     let at-read-head = at-h.before.before in
     let at-args = at-read-head.before.before in
     let f = at-args.args.file.now in let a = at-args.args in let l = lengths a.initial a.twins a.formulas a.effects a.operators in sym
-    (all-kept l f (sym at-read-head.read_head.ensures ∙ ap (head_told f) at-h.h.given.1)
+    (all_kept l f (sym at-read-head.read_head.ensures ∙ ap (head_told f) at-h.h.given.1)
     (sym at-counts-kept.counts_kept.ensures ∙ not-false _ at-if1.if1.false)
     (sym at-goal-kept.goal_kept.ensures ∙ not-false _ c.before.before.if2.false) (sym c.before.room.ensures ∙ not-false _ c.if3.false))
 

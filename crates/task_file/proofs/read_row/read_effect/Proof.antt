@@ -5,7 +5,7 @@ use borrow.Author.Tests.{not-true, not-false}
 use Rattle.task.specs.declared.Table.TheVariants.{Formulas, Effects}
 use Rattle.task.specs.Check.{effect_kept}
 use Rattle.task_file.specs.Inner.Answers.{row_told}
-use Rattle.task_file.proofs.RowWords.{kept-refused, effect-broken, effect-there}
+use Rattle.task_file.proofs.RowWords.{kept_refused, effect_broken, effect_there}
 use borrow.Author.Rules.{rules}
 use Rattle.task_file.proofs.read_row.read_effect.Statement.{statement}
 use Rattle.task_file.proofs.read_row.read_effect.Tie as tie
@@ -36,7 +36,7 @@ returns c =
     let f = a.file.now in
     let told = at-enum-told.enum_told.given.1 in
     ap (row_told Effects f) told
-    ∙ sym (kept-refused a.head a.i (drop a.at f) Effects (sym at-read-kind.read-kind.ensures ∙ ap (row_told Formulas f) told))
+    ∙ sym (kept_refused a.head a.i (drop a.at f) Effects (sym at-read-kind.read-kind.ensures ∙ ap (row_told Formulas f) told))
 
 -- src/read_row.rt:152:21
 cast-variables : tie.Need-overflow-cast-variables
@@ -61,7 +61,7 @@ returns-2 c =
     let a = at_start.args in
     let f = a.file.now in
     sym
-    (effect-broken a.head a.i (drop a.at f) (sym at-read-kind.read-kind.ensures ∙ ap (row_told Formulas f) at-r.r.given.1)
+    (effect_broken a.head a.i (drop a.at f) (sym at-read-kind.read-kind.ensures ∙ ap (row_told Formulas f) at-r.r.given.1)
     (sym at-effect-kept.effect_kept.ensures ∙ not-true _ c.if1.true))
 
 -- src/read_row.rt:138:1
@@ -75,7 +75,7 @@ returns-3 c =
     let a = at_start.args in
     let f = a.file.now in
     sym
-    (effect-there a.head a.i (drop a.at f) (sym at-read-kind.read-kind.ensures ∙ ap (row_told Formulas f) at-r.r.given.1)
+    (effect_there a.head a.i (drop a.at f) (sym at-read-kind.read-kind.ensures ∙ ap (row_told Formulas f) at-r.r.given.1)
     (sym at-effect-kept.effect_kept.ensures ∙ not-false _ c.if1.false))
 
 pub read-effect-spec : {M : Type 1} → statement M

@@ -5,7 +5,7 @@ use borrow.Author.Tests.{not-true, not-false}
 use Rattle.task.specs.declared.Table.TheVariants.{Formulas}
 use Rattle.task.specs.Check.{formula_kept}
 use Rattle.task_file.specs.Inner.Answers.{row_told}
-use Rattle.task_file.proofs.RowWords.{kept-refused, formula-broken, formula-there}
+use Rattle.task_file.proofs.RowWords.{kept_refused, formula_broken, formula_there}
 use borrow.Author.Rules.{rules}
 use Rattle.task_file.proofs.read_row.read_formula.Statement.{statement}
 use Rattle.task_file.proofs.read_row.read_formula.Tie as tie
@@ -36,7 +36,7 @@ returns c =
     let f = a.file.now in
     let told = at-enum-told.enum_told.given.1 in
     ap (row_told Formulas f) told
-    ∙ sym (kept-refused a.head a.i (drop a.at f) Formulas (sym at-read-kind.read-kind.ensures ∙ ap (row_told Formulas f) told))
+    ∙ sym (kept_refused a.head a.i (drop a.at f) Formulas (sym at-read-kind.read-kind.ensures ∙ ap (row_told Formulas f) told))
 
 -- src/read_row.rt:124:21
 cast-variables : tie.Need-overflow-cast-variables
@@ -57,7 +57,7 @@ returns-2 c =
     let a = at_start.args in
     let f = a.file.now in
     sym
-    (formula-broken a.head a.i (drop a.at f) (sym at-read-kind.read-kind.ensures ∙ ap (row_told Formulas f) at-r.r.given.1)
+    (formula_broken a.head a.i (drop a.at f) (sym at-read-kind.read-kind.ensures ∙ ap (row_told Formulas f) at-r.r.given.1)
     (sym at-formula-kept.formula_kept.ensures ∙ not-true _ c.if1.true))
 
 -- src/read_row.rt:110:1
@@ -71,7 +71,7 @@ returns-3 c =
     let a = at_start.args in
     let f = a.file.now in
     sym
-    (formula-there a.head a.i (drop a.at f) (sym at-read-kind.read-kind.ensures ∙ ap (row_told Formulas f) at-r.r.given.1)
+    (formula_there a.head a.i (drop a.at f) (sym at-read-kind.read-kind.ensures ∙ ap (row_told Formulas f) at-r.r.given.1)
     (sym at-formula-kept.formula_kept.ensures ∙ not-false _ c.if1.false))
 
 pub read-formula-spec : {M : Type 1} → statement M

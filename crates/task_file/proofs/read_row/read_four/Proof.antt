@@ -5,7 +5,7 @@ use lib.ListN.{drop}
 use Rattle.task.specs.declared.Table.TheVariants.{Operators}
 use Rattle.task_file.specs.Inner.Answers.{field_told, fields_told, row_told, lost_field, lost_fields}
 use Rattle.task_file.proofs.Places.{byte_ends, byte_here}
-use Rattle.task_file.proofs.RowWords.{four-refused, percent-refused, four-there, four-ends, four-unclear, row-refused, row_there}
+use Rattle.task_file.proofs.RowWords.{four_refused, percent_refused, four_there, four_ends, four_unclear, row-refused, row_there}
 use borrow.Author.Rules.{rules}
 use Rattle.task_file.proofs.read_row.read_four.Statement.{statement}
 use Rattle.task_file.proofs.read_row.read_four.Tie as tie
@@ -22,7 +22,7 @@ returns c =
     let at_start = c.before.before in
     let f = at_start.args.file.now in
     let at = at_start.args.at in
-    sym (four-ends (drop at f) (byte_ends f at c.if1.true))
+    sym (four_ends (drop at f) (byte_ends f at c.if1.true))
 
 -- src/read_row.rt:82:15
 shared-slice-read-map : tie.Need-shared-slice-read-map
@@ -34,7 +34,7 @@ returns-2 c =
     let at_start = c.before.before.before.before in
     let f = at_start.args.file.now in
     let at = at_start.args.at in
-    sym (four-unclear (drop at f) (byte_here f at (omega arith)) c.if2.true)
+    sym (four_unclear (drop at f) (byte_here f at (omega arith)) c.if2.true)
 
 -- src/read_row.rt:86:30
 add-read-three : tie.Need-overflow-add-read-three
@@ -70,7 +70,7 @@ returns-3 c =
     ap (row_told Operators f) (at-refused.refused.ensures ∙ ap lost_fields told)
     ∙ sym
     (row-refused (drop at f) (byte_here f at (omega arith)) (omega (arith, at-if2.if2.false))
-    (four-refused _ _ (sym at-read-three.read-three.ensures ∙ ap (fields_told f) told)))
+    (four_refused _ _ (sym at-read-three.read-three.ensures ∙ ap (fields_told f) told)))
 
 -- src/read_row.rt:96:9
 read-field-requires : tie.Need-read-field-requires
@@ -105,7 +105,7 @@ returns-4 c =
     ap (row_told Operators file) (at-no-field.no_field.ensures ∙ ap lost_field told)
     ∙ sym
     (row-refused (drop at file) (byte_here file at (omega arith)) (omega (arith, at-if2.if2.false))
-    (percent-refused _ _ (omega (arith, at-if2.if2.false)) three (sym at-read-field.read-field.ensures ∙ ap (field_told file) told)))
+    (percent_refused _ _ (omega (arith, at-if2.if2.false)) three (sym at-read-field.read-field.ensures ∙ ap (field_told file) told)))
 
 -- src/read_row.rt:76:1
 returns-5 : tie.Need-returns-5
@@ -121,7 +121,7 @@ returns-5 c =
     let three = sym at-read-three.read-three.ensures ∙ ap (fields_told file) at_f.f.given.1 in
     sym
     (row_there (drop at file) (byte_here file at (omega arith)) (omega (arith, at-if2.if2.false))
-    (four-there _ _ (omega (arith, at-if2.if2.false)) three (sym at-read-field.read-field.ensures ∙ ap (field_told file) at_p.p.given.1)))
+    (four_there _ _ (omega (arith, at-if2.if2.false)) three (sym at-read-field.read-field.ensures ∙ ap (field_told file) at_p.p.given.1)))
 
 pub read-four-spec : {M : Type 1} → statement M
 read-four-spec =

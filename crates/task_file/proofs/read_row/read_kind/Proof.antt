@@ -5,7 +5,7 @@ use lib.ListN.{drop}
 use Rattle.task.specs.declared.Table.TheVariants.{Formulas}
 use Rattle.task_file.specs.Inner.Answers.{fields_told, row_told, lost_fields}
 use Rattle.task_file.proofs.Places.{byte_ends, byte_here}
-use Rattle.task_file.proofs.RowWords.{kind-ends, kind-unclear, kind-refused, kind-there}
+use Rattle.task_file.proofs.RowWords.{kind_ends, kind_unclear, kind-refused, kind-there}
 use borrow.Author.Rules.{rules}
 use Rattle.task_file.proofs.read_row.read_kind.Statement.{statement}
 use Rattle.task_file.proofs.read_row.read_kind.Tie as tie
@@ -20,7 +20,7 @@ returns c =
     let at_start = c.before.before in
     let f = at_start.args.file.now in
     let at = at_start.args.at in
-    sym (kind-ends (drop at f) (byte_ends f at c.if1.true))
+    sym (kind_ends (drop at f) (byte_ends f at c.if1.true))
 
 -- src/read_row.rt:52:15
 shared-slice-read-map : tie.Need-shared-slice-read-map
@@ -32,7 +32,7 @@ returns-2 c =
     let at_start = c.before.before.before.before in
     let f = at_start.args.file.now in
     let at = at_start.args.at in
-    sym (kind-unclear (drop at f) (byte_here f at (omega arith)) c.if2.true)
+    sym (kind_unclear (drop at f) (byte_here f at (omega arith)) c.if2.true)
 
 -- src/read_row.rt:56:30
 add-read-three : tie.Need-overflow-add-read-three

@@ -3,7 +3,7 @@ use mathlib.Core.Path.{sym, ap, ◌∙◌}
 use lib.ListN.{drop}
 use Rattle.task.specs.declared.Table.TheVariants.{Operators}
 use Rattle.task_file.specs.Inner.Answers.{row_told}
-use Rattle.task_file.proofs.RowWords.{kept-refused, operator-broken, operator-there}
+use Rattle.task_file.proofs.RowWords.{kept_refused, operator_broken, operator_there}
 use borrow.Author.Rules.{rules}
 use Rattle.task_file.proofs.read_row.read_operator.Statement.{statement}
 use Rattle.task_file.proofs.read_row.read_operator.Tie as tie
@@ -34,7 +34,7 @@ returns c =
     let f = a.file.now in
     let told = at-enum-told.enum_told.given.1 in
     ap (row_told Operators f) told
-    ∙ sym (kept-refused a.head a.i (drop a.at f) Operators (sym at-read-four.read-four.ensures ∙ ap (row_told Operators f) told))
+    ∙ sym (kept_refused a.head a.i (drop a.at f) Operators (sym at-read-four.read-four.ensures ∙ ap (row_told Operators f) told))
 
 -- src/read_row.rt:181:20
 cast-formulas : tie.Need-overflow-cast-formulas
@@ -58,7 +58,7 @@ returns-2 c =
     let a = at_start.args in
     let f = a.file.now in
     sym
-    (operator-broken a.head a.i (drop a.at f) (sym at-read-four.read-four.ensures ∙ ap (row_told Operators f) at-r.r.given.1)
+    (operator_broken a.head a.i (drop a.at f) (sym at-read-four.read-four.ensures ∙ ap (row_told Operators f) at-r.r.given.1)
     at-operator-number.operator_number.ensures c.if1.true)
 
 -- src/read_row.rt:167:1
@@ -71,7 +71,7 @@ returns-3 c =
     let a = at_start.args in
     let f = a.file.now in
     sym
-    (operator-there a.head a.i (drop a.at f) (sym at-read-four.read-four.ensures ∙ ap (row_told Operators f) at-r.r.given.1)
+    (operator_there a.head a.i (drop a.at f) (sym at-read-four.read-four.ensures ∙ ap (row_told Operators f) at-r.r.given.1)
     at-operator-number.operator_number.ensures c.if1.false)
 
 pub read-operator-spec : {M : Type 1} → statement M

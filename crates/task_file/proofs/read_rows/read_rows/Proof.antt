@@ -5,7 +5,7 @@ use native.Mathlib.Omega.{arith}
 use borrow.Author.Rules.{rules}
 use Rattle.task.proofs.Stores.{row_there}
 use Rattle.task_file.specs.Inner.Answers.{row_told, lost_row}
-use Rattle.task_file.proofs.Loops.{RowsDone, rows-begin, rows-refused, rows_more, rows_end}
+use Rattle.task_file.proofs.Loops.{RowsDone, rows_begin, rows_refused, rows_more, rows_end}
 use Rattle.task_file.proofs.read_rows.read_rows.Statement.{statement}
 use Rattle.task_file.proofs.read_rows.read_rows.Tie as tie
 
@@ -17,7 +17,7 @@ abbrev decreases-loop : tie.decreases-loop
 decreases-loop table head count file at words₀ i₀ place₀ words i place = count - i
 
 loop-holds : tie.Need-loop-init invariant-loop decreases-loop
-loop-holds c = let a = c.before.before.args in rows-begin a.table a.head a.count a.file.now a.at a.words.now
+loop-holds c = let a = c.before.before.args in rows_begin a.table a.head a.count a.file.now a.at a.words.now
 
 same_length : tie.Need-same-length invariant-loop decreases-loop
 same_length c = c.before.before.before.before.before.loop.invariant.size
@@ -31,7 +31,7 @@ returns c =
     let a = at-args.args in
     let at = at-loop.loop in
     let told = c.before.enum_told.given.1 in
-    rows-refused a.table a.head a.count a.file.now a.at a.words.now at.words at.i at.place at.invariant
+    rows_refused a.table a.head a.count a.file.now a.at a.words.now at.words at.i at.place at.invariant
     at-loop-test.loop-test.true
     (sym at-read-kept.read_kept.ensures ∙ ap (row_told a.table a.file.now) told) (c.refused.ensures ∙ ap lost_row told)
 

@@ -4,7 +4,7 @@ use lib.ListN.{length, drop, length-set}
 use Rattle.file_format.specs.Bytes.{bytes_for}
 use native.Mathlib.Omega.{arith}
 use borrow.Author.Tests.{not-true, not-false}
-use Rattle.task_file.proofs.StateLoop.{state-short, state-unclear, state-there}
+use Rattle.task_file.proofs.StateLoop.{state_short, state_unclear, state_there}
 use borrow.Author.Rules.{rules}
 use Rattle.task_file.proofs.read_state.read_state.Statement.{statement}
 use Rattle.task_file.proofs.read_state.read_state.Tie as tie
@@ -19,7 +19,7 @@ returns : tie.Need-returns
 unfolding bytes_for
 returns c =
     let at-args = c.before.before.before.before in
-    let a = at-args.args in state-short a.count a.file.now a.at a.initial.now (omega (arith, c.before.left.ensures, c.if1.true))
+    let a = at-args.args in state_short a.count a.file.now a.at a.initial.now (omega (arith, c.before.left.ensures, c.if1.true))
 
 -- src/read_state.rt:52:9
 spare-clear-requires : tie.Need-spare-clear-requires
@@ -32,7 +32,7 @@ unfolding bytes_for
 returns-2 c =
     let at_left = c.before.before.before in
     let at-args = at_left.before.before.before in
-    let a = at-args.args in state-unclear a.count a.file.now a.at a.initial.now
+    let a = at-args.args in state_unclear a.count a.file.now a.at a.initial.now
     (omega (arith, at_left.left.ensures, c.before.before.if1.false)) (sym c.before.spare_clear.ensures ∙ not-true _ c.if2.true)
 
 -- src/read_state.rt:55:5
@@ -57,7 +57,7 @@ returns-3 c =
     let at-if1 = at-spare-clear.before in
     let at_left = at-if1.before in
     let at-args = at_left.before.before.before in
-    let a = at-args.args in state-there a.count a.file.now a.at a.initial.now c.before.before.unpack.new.1.1.1.0
+    let a = at-args.args in state_there a.count a.file.now a.at a.initial.now c.before.before.unpack.new.1.1.1.0
     (omega (arith, at_left.left.ensures, at-if1.if1.false)) (sym at-spare-clear.spare_clear.ensures ∙ not-false _ at-if2.if2.false)
     c.before.before.unpack.ensures
 

@@ -4,7 +4,7 @@ use lib.ListN.{length, drop, length-set}
 use Rattle.file_format.specs.Bytes.{bytes_for}
 use Prim.Native.Nat.{◌-◌}
 use native.Mathlib.Omega.{arith}
-use Rattle.task_file.proofs.StateLoop.{UnpackDone, unpack-begin, unpack-more, unpack-end}
+use Rattle.task_file.proofs.StateLoop.{UnpackDone, unpack_begin, unpack_more, unpack_end}
 use Rattle.task_file.proofs.read_state.unpack.Statement.{statement}
 use Rattle.task_file.proofs.read_state.unpack.Tie as tie
 use Rattle.task_file.proofs.read_state.unpack.Reads as reads
@@ -18,7 +18,7 @@ decreases-loop file at count initial₀ v₀ initial v = count - v
 
 -- src/read_state.rt:36:5
 loop-holds : tie.Need-loop-init invariant-loop decreases-loop
-loop-holds c = let a = c.args in unpack-begin a.count a.file.now a.at a.initial.now
+loop-holds c = let a = c.args in unpack_begin a.count a.file.now a.at a.initial.now
 
 -- src/read_state.rt:37:25
 add-byte : tie.Need-overflow-add-byte invariant-loop decreases-loop
@@ -48,7 +48,7 @@ add-v c =
 loop-again : tie.Need-loop-preserved invariant-loop decreases-loop
 loop-again c =
     let at-args = c.before.before.before in
-    let a = at-args.args in unpack-more a.count a.file.now a.at a.initial.now c.before.before.loop.initial c.before.before.loop.v
+    let a = at-args.args in unpack_more a.count a.file.now a.at a.initial.now c.before.before.loop.initial c.before.before.loop.v
     at-args.requires.1 c.before.before.loop.invariant c.before.loop-test.true
 
 -- src/read_state.rt:31:1
@@ -58,7 +58,7 @@ same_length c = c.before.loop.invariant.size
 -- src/read_state.rt:31:1
 returns : tie.Need-returns invariant-loop decreases-loop
 returns c =
-    let a = c.before.before.args in unpack-end a.count a.file.now a.at a.initial.now c.before.loop.initial c.before.loop.v
+    let a = c.before.before.args in unpack_end a.count a.file.now a.at a.initial.now c.before.loop.initial c.before.loop.v
     c.before.loop.invariant c.loop-test.false
 
 pub unpack-spec : {M : Type 1} → statement M

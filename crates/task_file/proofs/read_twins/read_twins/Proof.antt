@@ -6,7 +6,7 @@ use native.Mathlib.Omega.{arith}
 use borrow.Author.Rules.{rules}
 use Rattle.task.proofs.Named.{NamedBy, named_none}
 use Rattle.task_file.specs.Inner.Answers.{field_told, lost_word}
-use Rattle.task_file.proofs.TwinRows.{twin-high, twin-before, twin-now, twin-marked, TwinsDone, twins-begin, twins-ended, twins-broken, twins-more, twins-end}
+use Rattle.task_file.proofs.TwinRows.{twin_high, twin_before, twin_now, twin_marked, TwinsDone, twins_begin, twins_ended, twins_broken, twins_more, twins_end}
 use Rattle.task_file.proofs.read_twins.read_twins.Statement.{statement}
 use Rattle.task_file.proofs.read_twins.read_twins.Tie as tie
 use Rattle.task_file.proofs.read_twins.read_twins.Reads as reads
@@ -21,7 +21,7 @@ abbrev decreases-loop : tie.decreases-loop
 decreases-loop file at count bound twins₀ named₀ k₀ place₀ twins named k place = count - k
 
 loop-holds : tie.Need-loop-init invariant-loop decreases-loop
-loop-holds c = let a = c.before.before.args in (twins-begin a.bound a.count a.file.now a.at a.twins.now, named_none a.twins.now)
+loop-holds c = let a = c.before.before.args in (twins_begin a.bound a.count a.file.now a.at a.twins.now, named_none a.twins.now)
 
 same_length : tie.Need-same-length invariant-loop decreases-loop
 same_length c = c.before.before.before.before.before.loop.invariant.0.size
@@ -32,7 +32,7 @@ returns c =
     let at-loop-test = at-read-word.before in
     let at-loop = at-loop-test.before in
     let at-args = at-loop.before.before.before in
-    let a = at-args.args in let l = at-loop.loop in twins-ended a.bound a.count a.file.now a.at a.twins.now l.twins l.k l.place
+    let a = at-args.args in let l = at-loop.loop in twins_ended a.bound a.count a.file.now a.at a.twins.now l.twins l.k l.place
     l.invariant.0 at-loop-test.loop-test.true (sym at-read-word.read_word.ensures ∙ ap (field_told a.file.now) c.before.enum_told.given.1)
     (c.refused.ensures ∙ ap lost_word c.before.enum_told.given.1)
 
@@ -57,10 +57,10 @@ returns-2 c =
     let at-loop-test = at-read-word.before in
     let at-loop = at-loop-test.before in
     let s = at-loop.before.before.before in
-    let a = s.args in let l = at-loop.loop in twins-broken a.bound a.count a.file.now a.at a.twins.now l.twins l.k
+    let a = s.args in let l = at-loop.loop in twins_broken a.bound a.count a.file.now a.at a.twins.now l.twins l.k
     l.place s.requires.0 l.invariant.0 at-loop-test.loop-test.true
     (sym at-read-word.read_word.ensures ∙ ap (field_told a.file.now) c.before.before.f.given.1)
-    (twin-high a.bound s.requires.1 l.twins l.k _ (omega (arith, s.requires.0, l.invariant.0.size, at-loop-test.loop-test.true)) c.if1.true)
+    (twin_high a.bound s.requires.1 l.twins l.k _ (omega (arith, s.requires.0, l.invariant.0.size, at-loop-test.loop-test.true)) c.if1.true)
 
 array-read-if2 : tie.Need-array-read-if2 invariant-loop decreases-loop
 array-read-if2 c = omega (arith, c.if1.false, c.before.before.before.before.before.before.before.before.before.requires)
@@ -75,10 +75,10 @@ returns-3 c =
     let at-loop-test = at-read-word.before in
     let at-loop = at-loop-test.before in
     let s = at-loop.before.before.before in
-    let a = s.args in let l = at-loop.loop in twins-broken a.bound a.count a.file.now a.at a.twins.now l.twins l.k
+    let a = s.args in let l = at-loop.loop in twins_broken a.bound a.count a.file.now a.at a.twins.now l.twins l.k
     l.place s.requires.0 l.invariant.0 at-loop-test.loop-test.true
     (sym at-read-word.read_word.ensures ∙ ap (field_told a.file.now) at_f.f.given.1)
-    (twin-before a.bound s.requires.1 l.twins l.k _ (omega (arith, s.requires.0, l.invariant.0.size, at-loop-test.loop-test.true)) l.named l.invariant.1
+    (twin_before a.bound s.requires.1 l.twins l.k _ (omega (arith, s.requires.0, l.invariant.0.size, at-loop-test.loop-test.true)) l.named l.invariant.1
     c.before.if1.false c.if2.true)
 
 array-write-named : tie.Need-array-write-named invariant-loop decreases-loop
@@ -101,10 +101,10 @@ loop-again c =
     let s = at-loop.before.before.before in
     let a = s.args in let l = at-loop.loop in let fits : l.k < length l.twins = omega
     (arith, s.requires.0, l.invariant.0.size, at-loop-test.loop-test.true) in (
-      twins-more a.bound a.count a.file.now a.at a.twins.now l.twins l.k l.place s.requires.0 l.invariant.0
+      twins_more a.bound a.count a.file.now a.at a.twins.now l.twins l.k l.place s.requires.0 l.invariant.0
           at-loop-test.loop-test.true (sym at-read-word.read_word.ensures ∙ ap (field_told a.file.now) at_f.f.given.1)
-          (twin-now a.bound s.requires.1 l.twins l.k _ fits l.named l.invariant.1 c.before.if1.false c.if2.false),
-      twin-marked a.bound s.requires.1 l.twins l.k _ fits l.named l.invariant.1 c.before.if1.false,
+          (twin_now a.bound s.requires.1 l.twins l.k _ fits l.named l.invariant.1 c.before.if1.false c.if2.false),
+      twin_marked a.bound s.requires.1 l.twins l.k _ fits l.named l.invariant.1 c.before.if1.false,
     )
 
 same-length-4 : tie.Need-same-length-4 invariant-loop decreases-loop
@@ -113,7 +113,7 @@ same-length-4 c = c.before.loop.invariant.0.size
 returns-4 : tie.Need-returns-4 invariant-loop decreases-loop
 returns-4 c =
     let at-args = c.before.before.before.before in
-    let a = at-args.args in let l = c.before.loop in twins-end a.bound a.count a.file.now a.at a.twins.now l.twins l.k l.place
+    let a = at-args.args in let l = c.before.loop in twins_end a.bound a.count a.file.now a.at a.twins.now l.twins l.k l.place
     l.invariant.0 c.loop-test.false
 
 pub read-twins-spec : {M : Type 1} → statement M

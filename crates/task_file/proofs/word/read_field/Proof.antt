@@ -3,7 +3,7 @@ use mathlib.Core.Path.{◌≡◌, sym, ap, ◌∙◌}
 use lib.ListN.{drop}
 use borrow.Author.Rules.{rules}
 use Rattle.task_file.specs.Inner.Answers.{field_told}
-use Rattle.task_file.proofs.Places.{field_absent, field-refused, field-needless, field-there}
+use Rattle.task_file.proofs.Places.{field_absent, field_refused, field_needless, field_there}
 use Rattle.task_file.proofs.word.read_field.Statement.{statement}
 use Rattle.task_file.proofs.word.read_field.Tie as tie
 use Rattle.task_file.proofs.word.read_field.Reads as reads
@@ -20,7 +20,7 @@ returns-2 c =
     let at-if1 = c.before.before.before in
     let s = at-if1.before.before in
     ap (field_told s.args.file.now) c.enum_told.given.1 ∙ sym
-    (field-refused s.args.default s.args.bit (drop s.args.at s.args.file.now) at-if1.if1.false
+    (field_refused s.args.default s.args.bit (drop s.args.at s.args.file.now) at-if1.if1.false
     (sym c.before.before.read_word.ensures ∙ ap (field_told s.args.file.now) c.enum_told.given.1))
 
 -- src/word.rt:35:9
@@ -30,7 +30,7 @@ returns-3 c =
     let at-if1 = at-read-word.before in
     let s = at-if1.before.before in
     sym
-    (field-needless s.args.default s.args.bit (drop s.args.at s.args.file.now) at-if1.if1.false c.if2.true
+    (field_needless s.args.default s.args.bit (drop s.args.at s.args.file.now) at-if1.if1.false c.if2.true
     (sym at-read-word.read_word.ensures ∙ ap (field_told s.args.file.now) c.before.before.f.given.1))
 
 -- src/word.rt:24:1
@@ -40,7 +40,7 @@ returns-4 c =
     let at-if1 = at-read-word.before in
     let s = at-if1.before.before in
     sym
-    (field-there s.args.default s.args.bit (drop s.args.at s.args.file.now) at-if1.if1.false c.if2.false
+    (field_there s.args.default s.args.bit (drop s.args.at s.args.file.now) at-if1.if1.false c.if2.false
     (sym at-read-word.read_word.ensures ∙ ap (field_told s.args.file.now) c.before.before.f.given.1))
 
 pub read-field-spec : {M : Type 1} → statement M

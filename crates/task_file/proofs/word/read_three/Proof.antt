@@ -2,7 +2,7 @@
 use mathlib.Core.Path.{◌≡◌, sym, ap, ◌∙◌}
 use lib.ListN.{drop}
 use Rattle.task_file.specs.Inner.Answers.{field_told, fields_told, carried}
-use Rattle.task_file.proofs.RowWords.{first-refused, second-refused, third-refused, three-there}
+use Rattle.task_file.proofs.RowWords.{first_refused, second_refused, third-refused, three-there}
 use borrow.Author.Rules.{rules}
 use Rattle.task_file.proofs.word.read_three.Statement.{statement}
 use Rattle.task_file.proofs.word.read_three.Tie as tie
@@ -18,7 +18,7 @@ returns c =
     let at-args = at-read-field.before.before in
     let f = at-args.args.file.now in let m = at-args.args.map in let d = drop at-args.args.at f in ap (fields_told f)
     (c.refused.ensures ∙ ap carried c.before.enum_told.given.1) ∙ sym
-    (first-refused m d (sym at-read-field.read-field.ensures ∙ ap (field_told f) c.before.enum_told.given.1))
+    (first_refused m d (sym at-read-field.read-field.ensures ∙ ap (field_told f) c.before.enum_told.given.1))
 
 -- src/word.rt:64:9
 returns-2 : tie.Need-returns-2
@@ -29,7 +29,7 @@ returns-2 c =
     let at-args = at-read-field.before.before in
     let f = at-args.args.file.now in let m = at-args.args.map in let d = drop at-args.args.at f in ap (fields_told f)
     (c.refused2.ensures ∙ ap carried c.before.enum-told2.given.1) ∙ sym
-    (second-refused m d (sym at-read-field.read-field.ensures ∙ ap (field_told f) at_a.a.given.1)
+    (second_refused m d (sym at-read-field.read-field.ensures ∙ ap (field_told f) at_a.a.given.1)
     (sym at-read-field2.read-field2.ensures ∙ ap (field_told f) c.before.enum-told2.given.1))
 
 -- src/word.rt:68:9

@@ -5,7 +5,7 @@ use Rattle.task.specs.Inner.Tables.{words_at}
 use Rattle.task.proofs.Stores.{row_there}
 use Rattle.task_writer.specs.Inner.Putting.{rows_bytes}
 use Rattle.task_writer.proofs.Puts.{put_size}
-use Rattle.task_writer.proofs.PutLoops.{PutDone, put-begin, put-more, put-end, rows_none_put, rows_more_put, row_bytes_length}
+use Rattle.task_writer.proofs.PutLoops.{PutDone, put_begin, put_more, put_end, rows_none_put, rows_more_put, row_bytes_length}
 use Rattle.task_writer.proofs.put_tables.put_rows.Statement.{statement}
 use Rattle.task_writer.proofs.put_tables.put_rows.Tie as tie
 
@@ -18,7 +18,7 @@ decreases-loop table words count out₀ at i₀ place₀ out i place = count - i
 loop-holds : tie.Need-loop-init invariant-loop decreases-loop
 loop-holds c =
     let a = c.before.before.args in
-    put-begin (rows_bytes a.table a.words.now) a.count a.at a.out.now (rows_none_put a.table a.words.now)
+    put_begin (rows_bytes a.table a.words.now) a.count a.at a.out.now (rows_none_put a.table a.words.now)
 
 row-at-requires : tie.Need-row-at-requires invariant-loop decreases-loop
 row-at-requires c κs = row_there c.before.before.before.before.args.table c.loop-test.true c.before.before.before.before.requires.fit
@@ -52,7 +52,7 @@ loop-again c =
     let a = at-args.args in
     let at = at-loop.loop in
     let r = words_at a.table a.words.now at.i in
-    put-more (rows_bytes a.table a.words.now) a.count a.at a.out.now at.out at.i at.place at.invariant at-loop-test.loop-test.true
+    put_more (rows_bytes a.table a.words.now) a.count a.at a.out.now at.out at.i at.place at.invariant at-loop-test.loop-test.true
     (rw at-row-at.row_at.ensures at c.before.before.put-row.ensures) (row_bytes_length a.table r)
     (rows_more_put a.table a.words.now at.i)
 
@@ -63,7 +63,7 @@ returns : tie.Need-returns invariant-loop decreases-loop
 returns c =
     let a = c.before.before.before.before.args in
     let at = c.before.loop in
-    put-end (rows_bytes a.table a.words.now) a.count a.at a.out.now at.out at.i at.place at.invariant c.loop-test.false
+    put_end (rows_bytes a.table a.words.now) a.count a.at a.out.now at.out at.i at.place at.invariant c.loop-test.false
 
 pub put-rows-spec : {M : Type 1} → statement M
 put-rows-spec =

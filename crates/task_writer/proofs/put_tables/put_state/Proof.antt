@@ -6,7 +6,7 @@ use Prim.Native.Nat.{◌+◌, ◌-◌, ◌*◌, ◌/◌}
 use lib.ListN.{length, get_or, take}
 use Rattle.task_writer.specs.Inner.Putting.{Put, rows_bytes, byte_number}
 use Rattle.task_writer.proofs.Puts.{put_size, put_same}
-use Rattle.task_writer.proofs.PutLoops.{PutDone, put-begin, put-more, put-end, state_bytes, state_none_put, state_more_put, state_all}
+use Rattle.task_writer.proofs.PutLoops.{PutDone, put_begin, put_more, put_end, state_bytes, state_none_put, state_more_put, state_all}
 use Rattle.task_writer.proofs.put_tables.put_state.Statement.{statement}
 use Rattle.task_writer.proofs.put_tables.put_state.Tie as tie
 use Rattle.task_writer.proofs.put_tables.put_state.Reads as reads
@@ -27,7 +27,7 @@ add-bytes c = omega (arith, c.before.before.requires.1)
 -- src/put_tables.rt:69:5
 loop-holds : tie.Need-loop-init invariant-loop decreases-loop
 loop-holds c =
-    let a = c.before.before.args in put-begin (state_bytes (take a.count a.initial.now)) ((a.count + 7) / 8) a.at a.out.now
+    let a = c.before.before.args in put_begin (state_bytes (take a.count a.initial.now)) ((a.count + 7) / 8) a.at a.out.now
     (state_none_put (take a.count a.initial.now))
 
 -- src/put_tables.rt:70:50
@@ -72,7 +72,7 @@ loop-again c =
     let at-loop-test = at-pack.before.before in
     let at-loop = at-loop-test.before in
     let at-args = at-loop.before.before.before in
-    let a = at-args.args in put-more (state_bytes (take a.count a.initial.now)) ((a.count + 7) / 8) a.at a.out.now at-loop.loop.out
+    let a = at-args.args in put_more (state_bytes (take a.count a.initial.now)) ((a.count + 7) / 8) a.at a.out.now at-loop.loop.out
     at-loop.loop.j at-loop.loop.place at-loop.loop.invariant at-loop-test.loop-test.true c.before.before.put_byte.ensures (omega arith)
     (state_more_put (take a.count a.initial.now) at-loop.loop.j at-pack.pack.ensures)
 
@@ -85,7 +85,7 @@ returns : tie.Need-returns invariant-loop decreases-loop
 returns c =
     let at-args = c.before.before.before.before in
     let a = at-args.args in put_same (state_all a.initial.now a.count at-args.requires.0.fit)
-    (put-end (state_bytes (take a.count a.initial.now)) ((a.count + 7) / 8) a.at a.out.now c.before.loop.out c.before.loop.j
+    (put_end (state_bytes (take a.count a.initial.now)) ((a.count + 7) / 8) a.at a.out.now c.before.loop.out c.before.loop.j
     c.before.loop.place c.before.loop.invariant c.loop-test.false)
 
 pub put-state-spec : {M : Type 1} → statement M

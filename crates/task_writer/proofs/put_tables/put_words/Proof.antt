@@ -6,7 +6,7 @@ use Prim.Native.Nat.{◌+◌, ◌-◌, ◌*◌, ◌/◌}
 use lib.ListN.{length, get_or, take}
 use Rattle.task_writer.specs.Inner.Putting.{Put, rows_bytes, byte_number}
 use Rattle.task_writer.proofs.Puts.{put_size}
-use Rattle.task_writer.proofs.PutLoops.{PutDone, put-begin, put-more, put-end, words_bytes, words_none_put, words_more_put, word_length}
+use Rattle.task_writer.proofs.PutLoops.{PutDone, put_begin, put_more, put_end, words_bytes, words_none_put, words_more_put, word_length}
 use Rattle.task_writer.proofs.put_tables.put_words.Statement.{statement}
 use Rattle.task_writer.proofs.put_tables.put_words.Tie as tie
 use Rattle.task_writer.proofs.put_tables.put_words.Reads as reads
@@ -21,7 +21,7 @@ decreases-loop words count out₀ at k₀ place₀ out k place = count - k
 
 -- src/put_tables.rt:32:5
 loop-holds : tie.Need-loop-init invariant-loop decreases-loop
-loop-holds c = let a = c.before.before.args in put-begin (words_bytes a.words.now) a.count a.at a.out.now (words_none_put a.words.now)
+loop-holds c = let a = c.before.before.args in put_begin (words_bytes a.words.now) a.count a.at a.out.now (words_none_put a.words.now)
 
 -- src/put_tables.rt:33:50
 mul-put-word : tie.Need-overflow-mul-put-word invariant-loop decreases-loop
@@ -62,7 +62,7 @@ loop-again c =
     let at-loop-test = c.before.before.before.before.before in
     let at-loop = at-loop-test.before in
     let at-args = at-loop.before.before.before in
-    let a = at-args.args in put-more (words_bytes a.words.now) a.count a.at a.out.now at-loop.loop.out at-loop.loop.k
+    let a = at-args.args in put_more (words_bytes a.words.now) a.count a.at a.out.now at-loop.loop.out at-loop.loop.k
     at-loop.loop.place at-loop.loop.invariant at-loop-test.loop-test.true c.before.before.put_word.ensures
     (word_length (get_or a.words.now at-loop.loop.k 0))
     (words_more_put a.words.now at-loop.loop.k (omega (arith, at-args.requires.0, at-loop-test.loop-test.true)))
@@ -75,7 +75,7 @@ same_length c = put_size c.before.loop.invariant.done
 returns : tie.Need-returns invariant-loop decreases-loop
 returns c =
     let at-args = c.before.before.before.before in
-    let a = at-args.args in put-end (words_bytes a.words.now) a.count a.at a.out.now c.before.loop.out c.before.loop.k
+    let a = at-args.args in put_end (words_bytes a.words.now) a.count a.at a.out.now c.before.loop.out c.before.loop.k
     c.before.loop.place c.before.loop.invariant c.loop-test.false
 
 pub put-words-spec : {M : Type 1} → statement M

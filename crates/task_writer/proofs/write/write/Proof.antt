@@ -2,7 +2,7 @@
 use mathlib.Core.Path.{◌≡◌, refl, sym, ap, ◌∙◌}
 use native.Mathlib.Omega.{arith}
 use Rattle.task.specs.Table.{lent, task_of}
-use Rattle.task_writer.proofs.WriteWays.{write_in, not-checked, too_long, fits}
+use Rattle.task_writer.proofs.WriteWays.{write_in, not_checked, too_long, fits}
 use borrow.Author.Rules.{rules}
 use Rattle.task_writer.proofs.write.write.Statement.{statement}
 use Rattle.task_writer.proofs.write.write.Tie as tie
@@ -17,7 +17,7 @@ returns : tie.Need-returns
 returns c =
     let at-clear-bytes = c.before.before.before.before in
     let at-args = at-clear-bytes.before.before.before.before.before.before.before.before in
-    let a = at-args.args in not-checked (lent a.head a.initial.now a.twins.now a.formulas.now a.effects.now a.operators.now)
+    let a = at-args.args in not_checked (lent a.head a.initial.now a.twins.now a.formulas.now a.effects.now a.operators.now)
     a.out.now at-clear-bytes.clear-bytes.ensures c.before.check.ensures c.if1.true
 
 -- src/write.rt:50:9

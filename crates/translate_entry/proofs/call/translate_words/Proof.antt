@@ -14,7 +14,7 @@ returns c =
     let at-args = at-head-at.before.before.before.before in
     let a = at-args.args in
     words_given a.words.now (length a.out.now) (length a.result.now) at-head-at.head_at.ensures
-    at-part-from.part-from.ensures at-part-from5.before.before.before.part-from2.ensures at-part-from5.before.before.part-from3.ensures
+    at-part-from.part_from.ensures at-part-from5.before.before.before.part-from2.ensures at-part-from5.before.before.part-from3.ensures
     at-part-from5.before.part-from4.ensures at-part-from5.part-from5.ensures at-translate-tables.translate_tables.ensures
 
 pub translate-words-spec : {M : Type 1} → statement M

@@ -18,7 +18,7 @@ use Rattle.finite_domain.specs.Table.{finite_lent}
 use Rattle.translation.specs.Translating.{translating}
 use Rattle.translator.specs.Left.{tables}
 use Rattle.translator.proofs.Cleared.{blanked_self, same_room}
-use Rattle.translator.proofs.Ways.{refuses_first, head_few, roomy, flags-fit, filled-over, filled-done}
+use Rattle.translator.proofs.Ways.{refuses_first, head_few, roomy, flags_fit, filled-over, filled-done}
 
 same_length : tie.Need-same-length
 same_length c =
@@ -140,7 +140,7 @@ translated-head-requires c κs =
     let y = at-clear-all.clear-all.new in
     let x = tables y.0 y.1.0 y.1.1.0 y.1.1.1.0 y.1.1.1.1.0 in
     let passed = at-first-number.first_number.ensures.passed at-if1.if1.false in
-    flags-fit l x passed at-sizes-of.sizes-of.ensures
+    flags_fit l x passed at-sizes-of.sizes-of.ensures
 
 same-length-11 : tie.Need-same-length-11
 same-length-11 c =

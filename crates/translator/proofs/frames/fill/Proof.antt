@@ -2,7 +2,7 @@
 use borrow.Author.Rules.{rules}
 use Rattle.translator.proofs.frames.fill.Statement.{statement}
 use Rattle.translator.proofs.frames.fill.Tie as tie
-use Rattle.translator.proofs.Tried.{small-asks, tried, large-asks, filled-again}
+use Rattle.translator.proofs.Tried.{small_asks, tried, large-asks, filled-again}
 
 fill-least-requires : tie.Need-fill-least-requires
 fill-least-requires c κs =
@@ -10,7 +10,7 @@ fill-least-requires c κs =
     let at-if1 = at-fewer-rows.before in
     let at-is-least = at-if1.before in
     let at_entry_lem = at-is-least.before.before.before.before.before.before.before.before.before.before.before.before in
-    small-asks at-fewer-rows.fewer-rows.ensures at-is-least.is-least.ensures at-if1.if1.true at_entry_lem.requires
+    small_asks at-fewer-rows.fewer-rows.ensures at-is-least.is-least.ensures at-if1.if1.true at_entry_lem.requires
 
 fill-more-requires : tie.Need-fill-more-requires
 fill-more-requires c κs =

@@ -7,7 +7,7 @@ use mathlib.Core.Path.{◌∙◌}
 use Rattle.translator.specs.Left.{tables}
 use Rattle.translator.specs.Inner.Fills.{counted}
 use Rattle.translator.proofs.Cleared.{as_long}
-use Rattle.translator.proofs.Owned.{few_effects, owns-large, finish-asks, tried-done, tried-over, misfits}
+use Rattle.translator.proofs.Owned.{few_effects, owns_large, finish_asks, tried_done, tried_over, misfits}
 
 build-requires : tie.Need-build-requires
 build-requires c κs =
@@ -16,7 +16,7 @@ build-requires c κs =
     let b = at_entry_lem.pre in
     let g = counted a.sizes a.ranges.now a.initial.now a.formulas.now a.effects.now a.operators.now a.firsts.now in
     let x = tables a.values.now a.table.now a.out.now a.written.now a.scratch.now in
-    owns-large g x b.begins
+    owns_large g x b.begins
 
 finish-requires : tie.Need-finish-requires
 finish-requires c κs =
@@ -28,7 +28,7 @@ finish-requires c κs =
     let x = tables a.values.now a.table.now a.out.now a.written.now a.scratch.now in
     let stood = at-build.build.ensures a.ranges.now a.initial.now b.begins.source in
     let same = at-build.build.kept.1.1.1.1.1.1.1.1.1.0 in
-    finish-asks g x b.begins stood same 37376 (omega (arith, b.begins.spaced.rows_limit)) (omega (arith, few_effects g x b.begins))
+    finish_asks g x b.begins stood same 37376 (omega (arith, b.begins.spaced.rows_limit)) (omega (arith, few_effects g x b.begins))
     at-build.build.kept.1.1.1.1.1.1.1.1.0 at-build.build.kept.1.1.1.1.1.1.1.1.1.1.0
 
 same-length-5 : tie.Need-same-length-5
@@ -55,7 +55,7 @@ returns c =
     let long = as_long kept.0 kept.1.0 kept.1.1.0 kept.1.1.1.0 same in
     let ends = at-finish.finish.ensures a.formulas.now b.begins.source stood in
     record {
-      tries = tried-over g x b.begins long at-clear-all.clear-all.ensures c.no_room.ensures;
+      tries = tried_over g x b.begins long at-clear-all.clear-all.ensures c.no_room.ensures;
       misfit = λ _. misfits g x b.begins stood same ends at-if1.if1.taken b;
     }
 
@@ -72,7 +72,7 @@ returns-2 c =
     let same = at-build.build.kept.1.1.1.1.1.1.1.1.1.0 in
     let ends = at-finish.finish.ensures a.formulas.now b.begins.source stood in
     record {
-      tries = tried-done g x b.begins stood same ends c.if1.left;
+      tries = tried_done g x b.begins stood same ends c.if1.left;
       misfit = λ p. misfits g x b.begins stood same ends p b;
     }
 

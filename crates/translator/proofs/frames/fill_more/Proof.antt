@@ -2,7 +2,7 @@
 use borrow.Author.Rules.{rules}
 use Rattle.translator.proofs.frames.fill_more.Statement.{statement}
 use Rattle.translator.proofs.frames.fill_more.Tie as tie
-use Rattle.translator.proofs.Tried.{small-asks, tried, large-asks, filled-again}
+use Rattle.translator.proofs.Tried.{small_asks, tried, large-asks, filled-again}
 
 fill-small-requires : tie.Need-fill-small-requires
 fill-small-requires c κs =
@@ -10,7 +10,7 @@ fill-small-requires c κs =
     let at-if1 = at-fewer-rows.before in
     let at-is-small = at-if1.before in
     let at_entry_lem = at-is-small.before.before.before.before.before.before.before.before.before.before.before.before in
-    small-asks at-fewer-rows.fewer-rows.ensures at-is-small.is-small.ensures at-if1.if1.true at_entry_lem.requires
+    small_asks at-fewer-rows.fewer-rows.ensures at-is-small.is-small.ensures at-if1.if1.true at_entry_lem.requires
 
 fill-large-requires : tie.Need-fill-large-requires
 fill-large-requires c κs =

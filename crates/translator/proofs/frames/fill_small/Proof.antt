@@ -7,7 +7,7 @@ use mathlib.Core.Path.{◌∙◌}
 use Rattle.translator.specs.Left.{tables}
 use Rattle.translator.specs.Inner.Fills.{counted}
 use Rattle.translator.proofs.Cleared.{as_long}
-use Rattle.translator.proofs.Owned.{owns-small, finish-asks, tried-done, tried-over}
+use Rattle.translator.proofs.Owned.{owns_small, finish_asks, tried_done, tried_over}
 
 build-requires : tie.Need-build-requires
 build-requires c κs =
@@ -16,7 +16,7 @@ build-requires c κs =
     let b = at_entry_lem.pre in
     let g = counted a.sizes a.ranges.now a.initial.now a.formulas.now a.effects.now a.operators.now a.firsts.now in
     let x = tables a.values.now a.table.now a.out.now a.written.now a.scratch.now in
-    owns-small g x b.begins b
+    owns_small g x b.begins b
 
 finish-requires : tie.Need-finish-requires
 finish-requires c κs =
@@ -28,7 +28,7 @@ finish-requires c κs =
     let x = tables a.values.now a.table.now a.out.now a.written.now a.scratch.now in
     let stood = at-build.build.ensures a.ranges.now a.initial.now b.begins.source in
     let same = at-build.build.kept.1.1.1.1.1.1.1.1.1.0 in
-    finish-asks g x b.begins stood same 4736 (omega (arith, b.few_rows)) (omega (arith, b.few_effects))
+    finish_asks g x b.begins stood same 4736 (omega (arith, b.few_rows)) (omega (arith, b.few_effects))
     at-build.build.kept.1.1.1.1.1.1.1.1.0 at-build.build.kept.1.1.1.1.1.1.1.1.1.1.0
 
 same-length-5 : tie.Need-same-length-5
@@ -51,7 +51,7 @@ returns c =
     let same = at-build.build.kept.1.1.1.1.1.1.1.1.1.0 in
     let kept = at-finish.finish.kept.1.1.1.1.1.1.1.1.1.1 in
     let long = as_long kept.0 kept.1.0 kept.1.1.0 kept.1.1.1.0 same in
-    tried-over g x b.begins long at-clear-all.clear-all.ensures c.no_room.ensures
+    tried_over g x b.begins long at-clear-all.clear-all.ensures c.no_room.ensures
 
 returns-2 : tie.Need-returns-2
 returns-2 c =
@@ -65,7 +65,7 @@ returns-2 c =
     let stood = at-build.build.ensures a.ranges.now a.initial.now b.begins.source in
     let same = at-build.build.kept.1.1.1.1.1.1.1.1.1.0 in
     let ends = at-finish.finish.ensures a.formulas.now b.begins.source stood in
-    tried-done g x b.begins stood same ends c.if1.left
+    tried_done g x b.begins stood same ends c.if1.left
 
 pub fill-small-spec : {M : Type 1} → statement M
 fill-small-spec =

@@ -9,7 +9,7 @@ use Rattle.flag_tables.proofs.first_flags.Reads as first-flags-reads
 use mathlib.Core.Path.{sym, ◌∙◌}
 use Rattle.finite_domain.specs.Table.{finite_lent}
 use Rattle.translator.specs.Inner.Sizes.{room_by}
-use Rattle.translator.proofs.Refusing.{flags_asked, by-the-check, short-scratch, short-operators, many-flags, short-initial, no_number}
+use Rattle.translator.proofs.Refusing.{flags_asked, by_the_check, short_scratch, short-operators, many-flags, short-initial, no_number}
 
 returns : tie.Need-returns
 returns c =
@@ -17,7 +17,7 @@ returns c =
     let at-args = at-check.before.before.before.before.before.before.before in
     let a = at-args.args in
     let l = finite_lent a.head a.counts.now a.initial.now a.formulas.now a.effects.now a.operators.now in
-    by-the-check l (room_by a.lengths) a.firsts.now at-check.check.result at-check.check.ensures c.if1.true
+    by_the_check l (room_by a.lengths) a.firsts.now at-check.check.result at-check.check.ensures c.if1.true
 
 returns-2 : tie.Need-returns-2
 returns-2 c =
@@ -27,7 +27,7 @@ returns-2 c =
     let a = at-args.args in
     let l = finite_lent a.head a.counts.now a.initial.now a.formulas.now a.effects.now a.operators.now in
     let passes = sym at-check.check.ensures ∙ at-if1.if1.false in
-    short-scratch l (room_by a.lengths) a.firsts.now passes c.if2.true
+    short_scratch l (room_by a.lengths) a.firsts.now passes c.if2.true
 
 returns-3 : tie.Need-returns-3
 returns-3 c =

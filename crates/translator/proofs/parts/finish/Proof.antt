@@ -6,7 +6,7 @@ use native.Mathlib.Omega.{arith}
 use mathlib.Core.Path.{refl}
 use Rattle.translator.specs.Left.{tables}
 use Rattle.translator.specs.Inner.Fills.{counted}
-use Rattle.translator.proofs.Finished.{spaced_any, nothing-built, goal-there, goal-some, rows_small, rows-there, rows_space, effects-ready, effects-over, operators-ready, values-ready, effects-small, all_done}
+use Rattle.translator.proofs.Finished.{spaced_any, nothing_built, goal_there, goal_some, rows_small, rows_there, rows_space, effects_ready, effects_over, operators-ready, values-ready, effects-small, all_done}
 
 returns : tie.Need-returns
 returns c =
@@ -17,7 +17,7 @@ returns c =
     let g = counted a.sizes a.ranges.now a.initial.now in
     let x = tables a.values.now a.table.now a.out.now a.written.now a.scratch.now in
     λ formulas s stood.
-    nothing-built (g formulas a.effects.now a.operators.now a.firsts.now) s x (spaced_any formulas p.spaced)
+    nothing_built (g formulas a.effects.now a.operators.now a.firsts.now) s x (spaced_any formulas p.spaced)
     a.preconditions.now a.built.now a.rows p.preconditions_space p.built_space p.places_space stood at-if1.if1.taken c.no_room.ensures
 
 mul-copy-words : tie.Need-mul-copy-words
@@ -40,7 +40,7 @@ copy-words-requires c κs =
     let p = at_entry_lem.pre in
     let g = counted a.sizes a.ranges.now a.initial.now p.formulas a.effects.now a.operators.now a.firsts.now in
     let x = tables a.values.now a.table.now a.out.now a.written.now a.scratch.now in
-    let there = rows-there g p.source x p.spaced
+    let there = rows_there g p.source x p.spaced
     a.preconditions.now a.built.now a.rows p.preconditions_space p.built_space p.places_space p.stood at-if1.if1.left in
     let space = rows_space g p.source x p.spaced
     a.preconditions.now a.built.now a.rows p.preconditions_space p.built_space p.places_space p.stood at-if1.if1.left in
@@ -54,7 +54,7 @@ write-effects-requires c κs =
     let p = at_entry_lem.pre in
     let g = counted a.sizes a.ranges.now a.initial.now p.formulas a.effects.now a.operators.now a.firsts.now in
     let x = tables a.values.now a.table.now a.out.now a.written.now a.scratch.now in
-    effects-ready g p.source x p.spaced
+    effects_ready g p.source x p.spaced
     a.preconditions.now a.built.now a.rows p.preconditions_space p.built_space p.places_space p.stood at-if1.if1.left
 
 returns-2 : tie.Need-returns-2
@@ -68,7 +68,7 @@ returns-2 c =
     let g = counted a.sizes a.ranges.now a.initial.now in
     let x = tables a.values.now a.table.now a.out.now a.written.now a.scratch.now in
     λ formulas s stood.
-    effects-over (g formulas a.effects.now a.operators.now a.firsts.now) s x (spaced_any formulas p.spaced)
+    effects_over (g formulas a.effects.now a.operators.now a.firsts.now) s x (spaced_any formulas p.spaced)
     a.preconditions.now a.built.now a.rows p.preconditions_space p.built_space p.places_space stood at-if1.if1.left
     at-write-effects.write-effects.ensures at-write-effects.write-effects.kept.1.1.1.1.1.0 at-if2.if2.taken c.no-room2.ensures
 
@@ -135,7 +135,7 @@ mul-t24 c =
     let p = at_entry_lem.pre in
     let g = counted a.sizes a.ranges.now a.initial.now p.formulas a.effects.now a.operators.now a.firsts.now in
     let x = tables a.values.now a.table.now a.out.now a.written.now a.scratch.now in
-    let there = goal-there g p.source x p.spaced
+    let there = goal_there g p.source x p.spaced
     a.preconditions.now a.built.now a.rows p.preconditions_space p.built_space p.places_space p.stood at-if1.if1.left in
     omega (arith, there, at_entry_lem.good, at_entry_lem.fits)
 
@@ -148,7 +148,7 @@ shared-slice-read-t38 c =
     let p = at_entry_lem.pre in
     let g = counted a.sizes a.ranges.now a.initial.now p.formulas a.effects.now a.operators.now a.firsts.now in
     let x = tables a.values.now a.table.now a.out.now a.written.now a.scratch.now in
-    goal-there g p.source x p.spaced
+    goal_there g p.source x p.spaced
     a.preconditions.now a.built.now a.rows p.preconditions_space p.built_space p.places_space p.stood at-if1.if1.left
 
 sub-t39 : tie.Need-sub-t39
@@ -160,7 +160,7 @@ sub-t39 c =
     let p = at_entry_lem.pre in
     let g = counted a.sizes a.ranges.now a.initial.now p.formulas a.effects.now a.operators.now a.firsts.now in
     let x = tables a.values.now a.table.now a.out.now a.written.now a.scratch.now in
-    goal-some g p.source x p.spaced
+    goal_some g p.source x p.spaced
     a.preconditions.now a.built.now a.rows p.preconditions_space p.built_space p.places_space p.stood at-if1.if1.left
 
 returns-3 : tie.Need-returns-3

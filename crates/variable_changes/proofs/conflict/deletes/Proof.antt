@@ -8,7 +8,7 @@ use Rattle.conditions.proofs.condition.Reads as condition-reads
 use Rattle.formula_builder.proofs.join.Reads as join-reads
 use Rattle.formula_builder.specs.Inner.Held.{store, framed}
 use Rattle.conditions.specs.Inner.Conditions.{condition_at}
-use Rattle.variable_changes.proofs.Standing.{asks_condition, never-set, never-cleared, negated-full, negated-join-asks, negated-joined}
+use Rattle.variable_changes.proofs.Standing.{asks_condition, never_set, never_cleared, negated-full, negated-join-asks, negated-joined}
 use borrow.Author.Tests.{eq-eqb, ne_eqb}
 use Rattle.formula_builder.specs.Inner.Held.{sized}
 use mathlib.Core.Path.{refl}
@@ -16,14 +16,14 @@ use mathlib.Core.Path.{refl}
 returns : tie.Need-returns
 returns c =
     let at-args = c.before.before.before.before.before.before.before.before in
-    (never-set (framed at-args.args.frame.now) at-args.args.formulas.now at-args.args.effects.now
+    (never_set (framed at-args.args.frame.now) at-args.args.formulas.now at-args.args.effects.now
     ((sized at-args.args.rows.now at-args.args.twins.now)) (store at-args.args.table.now at-args.args.originals.now)
     at-args.args.scratch.now at-args.args.e at-args.args.v at-args.args.c.adds at-args.args.c.deletes at-args.requires c.if1.true)
 
 returns-2 : tie.Need-returns-2
 returns-2 c =
     let at-args = c.before.before.before.before.before.before.before.before.before.before in
-    (never-cleared (framed at-args.args.frame.now) at-args.args.formulas.now at-args.args.effects.now
+    (never_cleared (framed at-args.args.frame.now) at-args.args.formulas.now at-args.args.effects.now
     ((sized at-args.args.rows.now at-args.args.twins.now)) (store at-args.args.table.now at-args.args.originals.now)
     at-args.args.scratch.now at-args.args.e at-args.args.v at-args.args.c.adds at-args.args.c.deletes at-args.requires c.before.before.if1.false
     c.if2.true)

@@ -10,7 +10,7 @@ use mathlib.Core.Path.{◌∙◌}
 use Rattle.images.specs.Inner.Images.{becoming}
 use Rattle.images.proofs.Memos.{steady_becoming}
 use Rattle.conditions.specs.Inner.Conditions.{effect_tree, condition_at}
-use Rattle.variable_changes.proofs.Standing.{asks_condition, leaves_full, set_full, clear-full, change-made, stands_at_next}
+use Rattle.variable_changes.proofs.Standing.{asks_condition, leaves_full, set_full, clear_full, change_made, stands_at_next}
 use borrow.Author.Tests.{eq-eqb, ne_eqb}
 use Rattle.formula_builder.specs.Inner.Held.{framed}
 
@@ -49,7 +49,7 @@ returns-2 c =
     let at-condition-if = at-if1.before.before.before.before.before.before.before.before.before in
     let at-args = at-condition-if.before.before.before.before.before.before.before.before.before.before.before.before.before in
     rw c.no-room2.ensures (
-      clear-full (becoming (framed at-args.args.frame.now)) (steady_becoming (framed at-args.args.frame.now)) at-args.args.v
+      clear_full (becoming (framed at-args.args.frame.now)) (steady_becoming (framed at-args.args.frame.now)) at-args.args.v
           (effect_tree (framed at-args.args.frame.now) at-args.args.formulas.now at-args.args.effects.now at-args.args.e)
           at-condition-if.condition-if.ensures (ne_eqb _ 65535 at-if1.if1.false) at-condition-if2.condition-if2.ensures (eq-eqb _ 65535 c.before.if2.true),
       leaves_full,
@@ -113,7 +113,7 @@ returns-3 c =
     let at-if1 = at-condition-if2.before.before.before.before.before.before.before in
     let at-condition-if = at-if1.before.before.before.before.before.before.before.before.before in
     let at-args = at-condition-if.before.before.before.before.before.before.before.before.before.before.before.before.before in (
-      change-made (becoming (framed at-args.args.frame.now)) (steady_becoming (framed at-args.args.frame.now)) at-args.args.v
+      change_made (becoming (framed at-args.args.frame.now)) (steady_becoming (framed at-args.args.frame.now)) at-args.args.v
           (effect_tree (framed at-args.args.frame.now) at-args.args.formulas.now at-args.args.effects.now at-args.args.e)
           at-condition-if.condition-if.ensures (ne_eqb _ 65535 at-if1.if1.false) at-condition-if2.condition-if2.ensures
           (ne_eqb _ 65535 at-if2.if2.false) at-deletes.deletes.ensures,
