@@ -74,6 +74,16 @@ def standing(text, path):
     return {m.group(0) for l in lines for m in WORD.finditer(l) if l[max(0, m.start() - 1) : m.start()] != "."}
 
 
+def of_library(text, crates):
+    """The names that a file imports from the library: they stay, though one of ours may be spelled alike."""
+    names = set()
+    for path, listed in re.findall(r"^(?:pub |ghost )*use ([^\s{;]+)\.\{([^}]*)\}", text, re.M):
+        part = path.split(".")
+        if part[0] != "Rattle" or part[1] not in crates:
+            names |= {n.split(" as ")[0].strip() for n in listed.split(",")}
+    return names
+
+
 def snake(name):
     return name.replace("-", "_")
 
@@ -81,21 +91,23 @@ def snake(name):
 def main(argv):
     dry = "--dry" in argv
     ours = {n: p for n, p in declared().items() if "-" in n}
+    crates = set(os.listdir("crates"))
     clash = []
     new = {}
     for path in files(".antt", ".rt", ".edit", ".md"):
         text = open(path, encoding="utf-8").read()
+        stay = of_library(text, crates)
         if path.endswith(".antt") or path.endswith(".rt"):
             words = set(WORD.findall(text))
             bare = standing(text, path)
-            clash += [(path, w) for w in words if w in ours and snake(w) in bare]
+            clash += [(path, w) for w in words if w in ours and w not in stay and snake(w) in bare]
 
         def turn(m):
             w = m.group(0)
             # what the checker makes is named behind its module
             if text[max(0, m.start() - 4) : m.start()].endswith(("tie.", "goal.")):
                 return w
-            return snake(w) if w in ours else w
+            return snake(w) if w in ours and w not in stay else w
 
         if path.endswith(".md"):
             turned = re.sub(r"`[^`\n]+`", lambda q: WORD.sub(lambda m: snake(m.group(0)) if m.group(0) in ours else m.group(0), q.group(0)), text)

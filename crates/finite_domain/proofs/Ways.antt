@@ -1,7 +1,7 @@
 -- Laws of the check's definitions, one for each way out of the functions that are held to them. Assumes nothing.
 use Prim.Native.Nat.{ℕ, zero, suc, ◌*◌, ◌≤◌, ◌<◌}
 use mathlib.Core.Path.{◌≡◌, refl, sym, ap, ◌∙◌}
-use mathlib.Core.Bool.{true, false, and_false}
+use mathlib.Core.Bool.{true, false, and-false}
 use mathlib.Core.List.{List}
 use lib.ListN.{length, get_or}
 use lib.Dec.{leb, ltb}
@@ -25,7 +25,7 @@ module _ (h : Head) where
 
   pub some_twins : (h.twins ≡ 0 → ⊥) → false ≡ finite_counts_kept h
   unfolding finite_counts_kept
-  some_twins a = rw (ne_eqb h.twins 0 a) (sym (and_false (leb h.variables 64)))
+  some_twins a = rw (ne_eqb h.twins 0 a) (sym (and-false (leb h.variables 64)))
 
   pub other_counts : h.variables ≤ 64 → h.twins ≡ 0 → counts_kept h ≡ finite_counts_kept h
   unfolding finite_counts_kept

@@ -3,7 +3,7 @@ use Prim.Native.Nat.{ℕ, zero, suc, ◌+◌, ◌*◌, ◌≤◌, ◌<◌}
 use native.Mathlib.Omega.{arith}
 use mathlib.Core.Path.{◌≡◌, refl, sym, ap, ◌∙◌}
 use mathlib.Core.Bool.{Bool, true, false, cond}
-use mathlib.Core.List.{List, [], ◌∷◌, ◌++◌, map, map_append}
+use mathlib.Core.List.{List, [], ◌∷◌, ◌++◌, map, map-append}
 use lib.ListN.{length, get_or, take, drop}
 use lib.Dec.{eqb}
 use borrow.Author.Tests.{eq-eqb, ne_eqb, eqb-true}
@@ -104,7 +104,7 @@ front_read rows n out before e l = rw (e, ← l) (rows_read rows (drop (length (
 map_upto : {A B : Type 0} (g : A → B) (n : ℕ) (f : ℕ → A) → map g (upto n f) ≡ upto n (λ i. g (f i))
 unfolding upto
 map_upto g zero f = refl
-map_upto g (suc n) f = map_append g (upto n f) (f n ∷ []) ∙ rw (map_upto g n f) refl
+map_upto g (suc n) f = map-append g (upto n f) (f n ∷ []) ∙ rw (map_upto g n f) refl
 
 -- Over the first flags of v variables, the rows are those of the translated task, whose counts are the first v of those that are lent.
 module _ (counts : List ℕ) (v : ℕ) (firsts : List ℕ) (found : FirstFlags counts v firsts) where

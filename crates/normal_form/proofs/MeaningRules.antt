@@ -3,7 +3,7 @@ use Prim.Native.Nat.{ℕ, zero, suc, ◌+◌, ◌<◌}
 use native.Mathlib.Nat.{not-suc-le-zero}
 use native.Mathlib.Omega.{arith}
 use mathlib.Core.Path.{◌≡◌, refl, sym, ap, ap₂, ◌∙◌}
-use mathlib.Core.Bool.{Bool, true, false, cond, ◌&&◌, ◌||◌, or-false, and_false}
+use mathlib.Core.Bool.{Bool, true, false, cond, ◌&&◌, ◌||◌, or-false, and-false}
 use mathlib.Core.List.{List, [], ◌∷◌, ◌++◌}
 use lib.ListN.{length, get_or}
 use lib.Dec.{eqb, ltb}
@@ -73,7 +73,7 @@ module _ (formulas : List Row) (c : List ℕ) (zeroth : holds c (formula_of form
           → acts formulas c l (cond b (rule a (make (n + place eqb v twins))) [])
           ≡ (holds c (formula_of formulas a) && (b && same_atom l (make (n + place eqb v twins))))
       go true = acts_rule l (make (n + place eqb v twins)) a
-      go false = sym (and_false (holds c (formula_of formulas a)))
+      go false = sym (and-false (holds c (formula_of formulas a)))
 
   module _ (n : ℕ) (twins : List ℕ) (ch : Changes) where
     four :

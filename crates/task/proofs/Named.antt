@@ -3,7 +3,7 @@ use Prim.Native.Nat.{ℕ, zero, suc, ◌+◌, ◌≤◌, ◌<◌}
 use native.Mathlib.Numerals.{add-one}
 use native.Mathlib.Omega.{arith}
 use mathlib.Core.Path.{◌≡◌, refl, sym, ap, ◌∙◌}
-use mathlib.Core.Bool.{Bool, true, false, not, ◌&&◌, and-true, and_false}
+use mathlib.Core.Bool.{Bool, true, false, not, ◌&&◌, and-true, and-false}
 use mathlib.Core.List.{List}
 use lib.ListN.{length, get_or, set, replicate, length-set, length-replicate, get_or-replicate}
 use lib.Seq.{get_or-set_same, get_or-set_other}
@@ -47,7 +47,7 @@ module _ (twins : List ℕ) (k : ℕ) (named : List ℕ) (m : NamedBy twins k na
           let one : get_or (set named (get_or twins k 0) 1) x 0 ≡ 1 =
           ap (λ (y : ℕ). get_or (set named (get_or twins k 0) 1) y 0) same ∙ get_or-set_same named (get_or twins k 0) 1 0 (omega (arith, m.size))
           in
-          rw (one, add-one k, e) (ne_eqb 1 0 (λ q. omega arith) ∙ sym (and_false (every k (λ j. not (eqb (get_or twins j 0) x)))))
+          rw (one, add-one k, e) (ne_eqb 1 0 (λ q. omega arith) ∙ sym (and-false (every k (λ j. not (eqb (get_or twins j 0) x)))))
       go x l false e =
           let other : get_or (set named (get_or twins k 0) 1) x 0 ≡ get_or named x 0 =
           get_or-set_other named (get_or twins k 0) x 1 0 (λ q. eqb-false (get_or twins k 0) x e (sym q))

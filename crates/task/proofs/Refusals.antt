@@ -3,7 +3,7 @@ use Prim.Native.Nat.{ℕ, zero, suc, ◌+◌, ◌-◌, ◌*◌, ◌/◌, ◌≤�
 use native.Mathlib.Nat.{mul-le-mul, mul-suc, mul-div-le, lt-mul-div-succ}
 use native.Mathlib.Omega.{arith}
 use mathlib.Core.Path.{◌≡◌, refl, sym, ap, ◌∙◌}
-use mathlib.Core.Bool.{Bool, true, false, not, ◌&&◌, and_false}
+use mathlib.Core.Bool.{Bool, true, false, not, ◌&&◌, and-false}
 use mathlib.Core.List.{List, []}
 use lib.ListN.{length, get_or, take, drop}
 use lib.Dec.{leb, ltb, eqb}
@@ -23,7 +23,7 @@ pub fails_left : (a b : Bool) → a ≡ false → (a && b) ≡ false
 fails_left a b p = rw p
 
 pub fails_right : (a b : Bool) → b ≡ false → (a && b) ≡ false
-fails_right a b p = rw p (and_false a)
+fails_right a b p = rw p (and-false a)
 
 module _ (bound : ℕ) (twins : List ℕ) (k : ℕ) where
   pub twin_outside : bound ≤ get_or twins k 0 → twin_kept bound twins k ≡ false

@@ -4,7 +4,7 @@ use native.Mathlib.Nat.{not-suc-le-zero}
 use native.Mathlib.Omega.{arith}
 use native.Mathlib.Decide.{dec_lt, ℕ_discrete}
 use mathlib.Core.Path.{◌≡◌, refl, sym, ap, ap₂, ◌∙◌}
-use mathlib.Core.Bool.{Bool, true, false, cond, not, ◌&&◌, ◌||◌, or-true, or-false, and_false, false≢true}
+use mathlib.Core.Bool.{Bool, true, false, cond, not, ◌&&◌, ◌||◌, or-true, or-false, and-false, false≢true}
 use mathlib.Core.List.{List, [], ◌∷◌, ◌++◌}
 use lib.ListN.{length, get_or, take, length-append}
 use lib.Seq.{get_or-append_seam, get_or-append-add}
@@ -93,7 +93,7 @@ pub other_none : (n d : ℕ) (test : ℕ → Bool) → ((k : ℕ) → k < n → 
 unfolding some_other
 other_none zero d test h = refl
 other_none (suc n) d test h =
-    rw (other_none n d test (λ k l. h k (omega arith)), h n (omega arith)) (and_false (not (eqb n d)))
+    rw (other_none n d test (λ k l. h k (omega arith)), h n (omega arith)) (and-false (not (eqb n d)))
 
 or_parts : (x y c p q : Bool) → ((x || y) || (c && (p || q))) ≡ ((x || (c && p)) || (y || (c && q)))
 or_parts true y c p q = refl
@@ -263,8 +263,8 @@ module _ (counts c s : List ℕ) where
             λ a d h l.
             ap₂ ◌&&◌ same (w.clears_flag a d h l)
             ∙ sym (other_and (get_or counts a 0) d (finite_holds s q) (λ k. finite_effcond s a k g));
-        sets_outside = λ x h. rw (w.sets_outside x h) (and_false (holds c p));
-        clears_outside = λ x h. rw (w.clears_outside x h) (and_false (holds c p));
+        sets_outside = λ x h. rw (w.sets_outside x h) (and-false (holds c p));
+        clears_outside = λ x h. rw (w.clears_outside x h) (and-false (holds c p));
       }
 
   -- one of variable x's flags is cleared by "x becomes y" exactly if its value is another

@@ -2,7 +2,7 @@
 use Prim.Native.Nat.{ℕ, zero, suc, ◌<◌}
 use native.Mathlib.Omega.{arith}
 use mathlib.Core.Path.{◌≡◌, refl, sym}
-use mathlib.Core.Bool.{Bool, true, false, cond, not, ◌&&◌, and-true, and_false}
+use mathlib.Core.Bool.{Bool, true, false, cond, not, ◌&&◌, and-true, and-false}
 use mathlib.Core.List.{List}
 use lib.Dec.{eqb}
 use borrow.Author.Tests.{eqb-true}
@@ -104,7 +104,7 @@ never_left : (y z : Bool) → y ≡ false → not (y && z) ≡ true
 never_left y z e = rw e
 
 never_right : (y z : Bool) → z ≡ false → not (y && z) ≡ true
-never_right y z e = rw (e, and_false y)
+never_right y z e = rw (e, and-false y)
 
 -- Rows one and other of some meaning: "not both" is joined, or is true where one of the two is row 0.
 module _ {n : ℕ} (s : St) (y z : List ℕ → Bool) (one other : ℕ) (fine-s : Fine AnyKind n s) (my : Means n y s one) (mz : Means n z s other) where

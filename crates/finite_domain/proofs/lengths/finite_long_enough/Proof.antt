@@ -1,5 +1,5 @@
 -- `finite_long_enough` meets its contract: whether each table is as long as its count asks. Assumes nothing.
-use mathlib.Core.Bool.{and_false}
+use mathlib.Core.Bool.{and-false}
 use borrow.Author.Tests.{lt-leb}
 use Rattle.finite_domain.specs.Check.{finite_long_enough}
 use Rattle.finite_domain.proofs.Ways.{finite_lengths_last}
@@ -13,15 +13,15 @@ returns c = simp (lt-leb _ _ c.if1.true)
 
 returns-2 : tie.Need-returns-2
 unfolding finite_long_enough
-returns-2 c = simp (lt-leb _ _ c.if2.true, and_false)
+returns-2 c = simp (lt-leb _ _ c.if2.true, and-false)
 
 returns-3 : tie.Need-returns-3
 unfolding finite_long_enough
-returns-3 c = simp (lt-leb _ _ c.if3.true, and_false)
+returns-3 c = simp (lt-leb _ _ c.if3.true, and-false)
 
 returns-4 : tie.Need-returns-4
 unfolding finite_long_enough
-returns-4 c = simp (lt-leb _ _ c.if4.true, and_false)
+returns-4 c = simp (lt-leb _ _ c.if4.true, and-false)
 
 returns-5 : tie.Need-returns-5
 returns-5 c =

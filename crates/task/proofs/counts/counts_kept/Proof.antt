@@ -1,7 +1,7 @@
 -- `counts_kept` meets its contract: whether every count is within its limits. Assumes nothing.
 use Rattle.task.proofs.Refusals.{counts_last}
 use mathlib.Core.Path.{refl}
-use mathlib.Core.Bool.{and_false}
+use mathlib.Core.Bool.{and-false}
 use borrow.Author.Tests.{lt-leb, le-leb}
 use Rattle.task.specs.Check.{counts_kept}
 use borrow.Author.Rules.{rules}
@@ -14,19 +14,19 @@ returns c = simp (lt-leb _ _ c.if1.true)
 
 returns-2 : tie.Need-returns-2
 unfolding counts_kept
-returns-2 c = simp (lt-leb _ _ c.if2.true, and_false)
+returns-2 c = simp (lt-leb _ _ c.if2.true, and-false)
 
 returns-3 : tie.Need-returns-3
 unfolding counts_kept
-returns-3 c = simp (lt-leb _ _ c.if3.true, and_false)
+returns-3 c = simp (lt-leb _ _ c.if3.true, and-false)
 
 returns-4 : tie.Need-returns-4
 unfolding counts_kept
-returns-4 c = simp (lt-leb _ _ c.if4.true, and_false)
+returns-4 c = simp (lt-leb _ _ c.if4.true, and-false)
 
 returns-5 : tie.Need-returns-5
 unfolding counts_kept
-returns-5 c = simp (lt-leb _ _ c.if5.true, and_false)
+returns-5 c = simp (lt-leb _ _ c.if5.true, and-false)
 
 returns-6 : tie.Need-returns-6
 returns-6 c =

@@ -1,7 +1,7 @@
 -- `long_enough` meets its contract: constant time: only the lengths are looked at. Assumes nothing.
 use Rattle.task.proofs.Refusals.{lengths_last}
 use mathlib.Core.Path.{refl}
-use mathlib.Core.Bool.{and_false}
+use mathlib.Core.Bool.{and-false}
 use borrow.Author.Tests.{lt-leb, le-leb}
 use Rattle.task.specs.Check.{long_enough, room}
 use borrow.Author.Rules.{rules}
@@ -14,15 +14,15 @@ returns c = simp (lt-leb _ _ c.if1.true)
 
 returns-2 : tie.Need-returns-2
 unfolding long_enough room
-returns-2 c = simp (lt-leb _ _ c.if2.true, and_false)
+returns-2 c = simp (lt-leb _ _ c.if2.true, and-false)
 
 returns-3 : tie.Need-returns-3
 unfolding long_enough room
-returns-3 c = simp (lt-leb _ _ c.if3.true, and_false)
+returns-3 c = simp (lt-leb _ _ c.if3.true, and-false)
 
 returns-4 : tie.Need-returns-4
 unfolding long_enough room
-returns-4 c = simp (lt-leb _ _ c.if4.true, and_false)
+returns-4 c = simp (lt-leb _ _ c.if4.true, and-false)
 
 returns-5 : tie.Need-returns-5
 returns-5 c =
