@@ -1,18 +1,17 @@
 /*
- * pnf: reading, compiling and running propositional planning tasks, the cheapest plan of
- * small ones, and translating finite-domain tasks to such tasks, for C and C++.
+ * pnf: reading, compiling and running propositional planning tasks, and the cheapest plan
+ * of small ones, for C and C++.
  *
  * A task crosses as its task file, a state as one byte a variable (0 or 1), operator
- * numbers as 16 bits, a finite-domain task as its tables, 16 bits a word. All integers in all
- * buffers are little-endian; none is aligned. docs/C-INTERFACE.md has the layouts byte by
- * byte, and a worked example.
+ * numbers as 16 bits. All integers in all buffers are little-endian; none is aligned.
+ * docs/C-INTERFACE.md has the layouts byte by byte, and a worked example.
  *
  * Each call gives 0 or one of the numbers below, the first in the order of its list.
  *
  * - Buffers. Each pointer is followed by its length in bytes. With length 0 the pointer
- *   is not used and may be null; otherwise that many bytes must be readable, and unless
- *   the pointer is to const, writable. What a buffer that takes an answer (tables, out,
- *   result) holds before does not matter.
+ *   is not used and may be null; otherwise that many bytes must be readable, and for
+ *   tables, out, state and result writable. What tables, out and result hold before does
+ *   not matter.
  * - Overlap. No buffer that a call writes may overlap another buffer of the same call.
  * - Memory. The calls allocate nothing and keep nothing: no shared state. Any number of
  *   threads may call at once, each with its own writable buffers.
@@ -29,14 +28,14 @@
 extern "C" {
 #endif
 
-/* What a call gives back. 8 and 14 belong to calls on tables and are never given here. */
+/* What a call gives back. 5, 8 and 14 belong to calls on tables and are never given here. */
 enum {
     PNF_OK = 0,
     PNF_FILE_ENDS = 1,       /* the file ends inside a field or row */
     PNF_UNUSED_BIT = 2,      /* an unused map bit or a spare bit of the initial state is 1 */
     PNF_PRESENT_ZERO = 3,    /* a present field is 0, or a present percent 100 (0 it may be) */
     PNF_BYTES_FOLLOW = 4,    /* bytes follow the last row */
-    PNF_TABLE_SHORT = 5,     /* translating: the tables are shorter than their counts ask */
+    PNF_TABLE_SHORT = 5,     /* (a lent table is too short for its count) */
     PNF_COUNT = 6,           /* a count of the head is outside its limits */
     PNF_GOAL = 7,            /* the goal is not below F */
     PNF_INITIAL_BYTE = 8,    /* (an initial byte is neither 0 nor 1) */
@@ -46,7 +45,7 @@ enum {
     PNF_OPERATOR_ROW = 12,   /* precondition not below F, or effect not below E */
     PNF_HAS_TWINS = 13,      /* compiling: W is above 0 */
     PNF_SCRATCH_SHORT = 14,  /* (lent scratch is too short) */
-    PNF_OVER_LIMIT = 15,     /* compiling, translating: the finished task is over a limit */
+    PNF_OVER_LIMIT = 15,     /* compiling: the compiled task is over a limit */
     PNF_STATE = 16,          /* running: state of wrong length, or a byte above 1 */
     PNF_NO_OPERATOR = 17,    /* running stopped: number not below O */
     PNF_NOT_APPLICABLE = 18, /* running stopped: precondition false */
@@ -55,9 +54,7 @@ enum {
     PNF_MANY_VARIABLES = 21, /* planning: more than 10 variables, twins among them */
     PNF_NO_PLAN = 22,        /* planning: there is no plan */
     PNF_PLAN_LONG = 23,      /* planning: out is shorter than two bytes a step */
-    PNF_PERCENT = 24,        /* an operator's percent is above 200 */
-    PNF_VALUE_COUNT = 25,    /* translating: a value count is outside 1 to 16 */
-    PNF_VALUE = 26           /* translating: a value is not below its variable's count */
+    PNF_PERCENT = 24         /* an operator's percent is above 200 */
 };
 
 /* Limits of a task, of a run, and of a task that is planned for and its plan. */
@@ -69,10 +66,6 @@ enum {
 #define PNF_MOST_STEPS 65535
 #define PNF_MOST_PLAN_VARIABLES 10
 #define PNF_MOST_PLAN_STEPS 1023
-
-/* Limits of a finite-domain task: its variables, and the values of each. */
-#define PNF_MOST_FINITE_VARIABLES 64
-#define PNF_MOST_VALUES 16
 
 /* No task file is longer: an out of this length is never too short. */
 #define PNF_MOST_FILE_BYTES 43853
@@ -91,18 +84,6 @@ enum {
     PNF_TABLES_BYTES(PNF_MOST_VARIABLES, PNF_MOST_TWINS, PNF_MOST_FORMULAS, \
                      PNF_MOST_EFFECTS, PNF_MOST_OPERATORS)
 
-/*
- * Tables of a finite-domain task: the head, V value counts, V initial values, then rows as
- * above. Formula kind 8, "variable a has value b", and effect kind 5, "variable a becomes value
- * b", stand for formula kind 2 and effect kinds 1 and 2.
- */
-#define PNF_FINITE_TABLES_BYTES(v, f, e, o) \
-    ((size_t)PNF_HEAD_BYTES + 4 * (size_t)(v) + \
-     PNF_ROW_BYTES * ((size_t)(f) + (size_t)(e)) + PNF_OPERATOR_BYTES * (size_t)(o))
-#define PNF_MOST_FINITE_TABLES_BYTES \
-    PNF_FINITE_TABLES_BYTES(PNF_MOST_FINITE_VARIABLES, PNF_MOST_FORMULAS, PNF_MOST_EFFECTS, \
-                            PNF_MOST_OPERATORS)
-
 /* No plan takes more bytes: an out of this length is never too short for one. */
 #define PNF_MOST_PLAN_BYTES (2 * PNF_MOST_PLAN_STEPS)
 
@@ -120,7 +101,6 @@ enum {
 #define PNF_PLAN_RESULT_BYTES 12
 #define PNF_PLAN_STEPS 0 /* 4 bytes */
 #define PNF_PLAN_COST 4  /* 8 bytes */
-#define PNF_TRANSLATE_RESULT_BYTES 4
 
 /*
  * Measured by tests/client/stack.c, on 4,096 formulas and 4,096 effects nested as deep as they
@@ -168,18 +148,6 @@ uint32_t pnf_run(const uint8_t *file, size_t file_len,
 uint32_t pnf_plan(const uint8_t *file, size_t file_len,
                   uint8_t *out, size_t out_len,
                   uint8_t *result, size_t result_len);
-
-/*
- * Translates a finite-domain task to one with a variable for each value, its flag, numbered
- * by variable, then by value. A step that would give a variable two values is not applicable.
- * Numbers: those of the tables (6, 7, 5, 25, 26, then row by row 10 or 26, 11 or 26, 12 or
- * 24, first fault first; fewer than 12 bytes: 5 before all else), 15, 20 (out or result).
- * Afterwards out holds the translated task's file and result that file's length, and 0
- * behind them; both all 0 unless PNF_OK.
- */
-uint32_t pnf_translate(const uint8_t *tables, size_t tables_len,
-                       uint8_t *out, size_t out_len,
-                       uint8_t *result, size_t result_len);
 
 #ifdef __cplusplus
 }

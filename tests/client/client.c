@@ -3,8 +3,6 @@
  * its compiled task, each from its own initial state.
  * client FILE plan: compiles the task file and prints the cheapest plan of it and of its
  * compiled task.
- * client translate TABLES ..: translates the tables of a finite-domain task, and goes on with
- * the file that they give.
  *
  * Exit status: 0 a plan of both; 1 no plan; 2 refused; 3 bad usage.
  */
@@ -20,7 +18,7 @@ static uint8_t sequence[2 * (PNF_MOST_STEPS + 1)];
 
 static void usage(void)
 {
-    fprintf(stderr, "usage: client [translate] FILE [plan | OPERATOR ...]\n");
+    fprintf(stderr, "usage: client FILE [plan | OPERATOR ...]\n");
     exit(3);
 }
 
@@ -97,7 +95,7 @@ static int plan(const char *name, const uint8_t *file, size_t file_len)
     return 1;
 }
 
-static size_t read_file(const char *name, uint8_t *bytes, size_t room)
+static size_t read_file(const char *name)
 {
     FILE *input = fopen(name, "rb");
     size_t length;
@@ -106,22 +104,9 @@ static size_t read_file(const char *name, uint8_t *bytes, size_t room)
         perror(name);
         exit(3);
     }
-    length = fread(bytes, 1, room, input);
+    length = fread(source, 1, sizeof source, input);
     fclose(input);
     return length;
-}
-
-/* Puts the translated task's file into source; the length of that file. */
-static size_t translate(const char *name)
-{
-    static uint8_t tables[PNF_MOST_FINITE_TABLES_BYTES];
-    uint8_t result[PNF_TRANSLATE_RESULT_BYTES];
-    size_t length = read_file(name, tables, sizeof tables);
-    uint32_t answer = pnf_translate(tables, length, source, sizeof source, result, sizeof result);
-
-    if (answer != PNF_OK)
-        refused("translating", answer);
-    return (size_t)number(result, PNF_TRANSLATE_RESULT_BYTES);
 }
 
 /* The operator numbers as they cross; the bytes that they take. */
@@ -147,14 +132,11 @@ int main(int argc, char **argv)
     uint8_t result[PNF_COMPILE_RESULT_BYTES];
     size_t source_len, compiled_len, sequence_len = 0;
     uint32_t answer;
-    int translating = argc > 1 && strcmp(argv[1], "translate") == 0;
     int planning, source_plan, compiled_plan;
 
-    argc -= translating;
-    argv += translating;
     if (argc < 2)
         usage();
-    source_len = translating ? translate(argv[1]) : read_file(argv[1], source, sizeof source);
+    source_len = read_file(argv[1]);
     planning = argc == 3 && strcmp(argv[2], "plan") == 0;
     if (!planning)
         sequence_len = put_sequence(argc - 2, argv + 2);

@@ -1,5 +1,5 @@
 /*
- * Layouts, buffer lengths, dirty buffers, and every number that the five calls give, held
+ * Layouts, buffer lengths, dirty buffers, and every number that the four calls give, held
  * to bytes written by hand from the scope. The last line is 'N passed, M failed'.
  *
  * Every buffer is a block of its own of just its length, so that a checker of memory sees
@@ -168,49 +168,8 @@ static void expect_no_plan(const char *what, const uint8_t *bytes, size_t length
     expect_plan(what, bytes, length, out_len, result_len, number, NULL, 0, NULL, 0);
 }
 
-/*
- * A finite-domain task: one variable of two values, at first 1; formulas "has 0", "has 1"; effects
- * "becomes 0", "becomes 1", both; operators (1, 0, cost 3) and, with a conflict, (1, 2, cost 1 at
- * 50); the goal is "has 0". And the file of its translated task.
- */
-static const uint8_t finite[PNF_FINITE_TABLES_BYTES(1, 2, 3, 2)] = {
-    1, 0, 0, 0, 2, 0, 3, 0, 2, 0, 0, 0,                           /* head */
-    2, 0, 1, 0,                                                   /* value count; initial value */
-    8, 0, 0, 0, 0, 0, 8, 0, 0, 0, 1, 0,                           /* formulas */
-    5, 0, 0, 0, 0, 0, 5, 0, 0, 0, 1, 0, 3, 0, 0, 0, 1, 0,         /* effects */
-    1, 0, 0, 0, 3, 0, 100, 0, 1, 0, 2, 0, 1, 0, 50, 0             /* operators */
-};
-static const uint8_t finite_translated[] = {
-    0x3d, 2, 0, 6, 0, 7, 0, 2, 0, 2, 0,                           /* head */
-    0x02,                                                         /* initially flag 1 */
-    0x00, 0x10, 0x20, 0x21, 1, 0,                                 /* false; true; flags */
-    0x31, 1, 0, 0x43, 3, 0, 4, 0,                                 /* not true; flag 1 and that */
-    0x10, 0x21, 1, 0, 0x32, 1, 0,                                 /* becomes 0 */
-    0x11, 1, 0, 0x20, 0x33, 3, 0, 4, 0, 0x33, 2, 0, 5, 0,         /* becomes 1; both */
-    0x07, 3, 0, 2, 0, 3, 0, 0x0f, 5, 0, 6, 0, 1, 0, 50, 0         /* operators */
-};
-
-static void expect_translate(const char *what, const uint8_t *bytes, size_t length, size_t out_len,
-                             size_t result_len, uint32_t number, const uint8_t *answer,
-                             size_t answer_len)
-{
-    uint8_t *tables = copy(bytes, length), *out = lent(out_len), *result = lent(result_len);
-    uint8_t size[PNF_TRANSLATE_RESULT_BYTES] = {0, 0, 0, 0};
-    uint32_t given = pnf_translate(tables, length, out, out_len, result, result_len);
-    size[0] = (uint8_t)(answer_len & 255);
-    size[1] = (uint8_t)(answer_len >> 8);
-    check(what, given == number);
-    check(what, holds(out, out_len, answer, answer_len));
-    check(what, holds(result, result_len, size, number == PNF_OK ? sizeof size : 0));
-    check(what, length == 0 || memcmp(tables, bytes, length) == 0);
-    free(tables);
-    free(out);
-    free(result);
-}
-
 static void sizes(void)
 {
-    check("finite-domain tables", sizeof finite == 62 && PNF_MOST_FINITE_TABLES_BYTES == 51468);
     check("head", PNF_HEAD_BYTES == 12);
     check("largest tables", PNF_MOST_TABLES_BYTES == 52236);
     check("whole example's tables", sizeof whole_tables == 76);
@@ -436,70 +395,6 @@ static void refused_plans(void)
     }
 }
 
-/* Every length of the tables and of both outputs; the runs of the file that is given. */
-static void translating(void)
-{
-    static const uint8_t numbers[] = {0, 0, 1, 0}, before[] = {0, 1}, after[] = {1, 0};
-    static const uint8_t charged[] = {1, 0, 0, 0, 3, 0, 0, 0, 0, 0, 0, 0, 1, 1, 0, 0};
-    static const uint8_t stopped[] = {0, 0, 0, 0, 0, 0, 0, 0, 0, 0, 0, 0, 0, 0, 18, 0};
-    struct run r = {finite_translated, sizeof finite_translated, before, 2, numbers, 2, 16};
-    uint8_t longer[sizeof finite + 9];
-    size_t size = sizeof finite_translated, length;
-
-    for (length = 0; length < sizeof finite; length++)
-        expect_translate("tables too short", finite, length, 99, 4, PNF_TABLE_SHORT, NULL, 0);
-    memset(longer, 0xff, sizeof longer);
-    memcpy(longer, finite, sizeof finite);
-    for (length = sizeof finite; length <= sizeof longer; length++)
-        expect_translate("bytes behind", longer, length, 99, 4, PNF_OK, finite_translated, size);
-    for (length = 0; length < size; length++)
-        expect_translate("out too short", finite, sizeof finite, length, 4, PNF_OUTPUT_SHORT, NULL, 0);
-    for (length = size; length < size + 9; length++)
-        expect_translate("out long enough", finite, sizeof finite, length, length - size + 4, PNF_OK,
-                         finite_translated, size);
-    for (length = 0; length < 4; length++)
-        expect_translate("result too short", finite, sizeof finite, size, length, PNF_OUTPUT_SHORT,
-                         NULL, 0);
-    expect_run("one value", r, PNF_OK, after, charged, 16);
-    r.sequence = numbers + 2;
-    expect_run("two values at once", r, PNF_NOT_APPLICABLE, before, stopped, 16);
-}
-
-/* One word of the tables changed: the number, whatever the outputs are. */
-static void refused_tables(void)
-{
-    static const struct {
-        uint32_t number;
-        size_t at;
-        unsigned word;
-    } changes[] = {
-        {PNF_COUNT, 0, 65},           {PNF_COUNT, 2, 1},           {PNF_COUNT, 4, 0},
-        {PNF_COUNT, 6, 4097},         {PNF_COUNT, 8, 257},         {PNF_GOAL, 10, 2},
-        {PNF_TABLE_SHORT, 8, 3},      {PNF_VALUE_COUNT, 12, 0},    {PNF_VALUE_COUNT, 12, 17},
-        {PNF_VALUE, 14, 2},           {PNF_FORMULA_ROW, 16, 2},    {PNF_FORMULA_ROW, 18, 1},
-        {PNF_VALUE, 20, 2},           {PNF_FORMULA_ROW, 22, 9},    {PNF_EFFECT_ROW, 28, 1},
-        {PNF_EFFECT_ROW, 28, 2},      {PNF_EFFECT_ROW, 30, 1},     {PNF_VALUE, 32, 2},
-        {PNF_EFFECT_ROW, 44, 2},      {PNF_OPERATOR_ROW, 46, 2},   {PNF_OPERATOR_ROW, 56, 3},
-        {PNF_PERCENT, 52, 201},       {PNF_PERCENT, 60, 65535},
-    };
-    static uint8_t many[PNF_FINITE_TABLES_BYTES(33, 1, 0, 0)] = {33, 0, 0, 0, 1};
-    uint8_t tables[sizeof finite];
-    size_t i;
-
-    for (i = 0; i < sizeof changes / sizeof changes[0]; i++) {
-        memcpy(tables, finite, sizeof finite);
-        tables[changes[i].at] = (uint8_t)(changes[i].word & 255);
-        tables[changes[i].at + 1] = (uint8_t)(changes[i].word >> 8);
-        expect_translate("a word", tables, sizeof tables, 99, 4, changes[i].number, NULL, 0);
-        expect_translate("before 20", tables, sizeof tables, 0, 0, changes[i].number, NULL, 0);
-    }
-    for (i = 0; i < 33; i++)
-        many[12 + 2 * i] = 16; /* 528 flags */
-    expect_translate("528 flags", many, sizeof many, 999, 4, PNF_OVER_LIMIT, NULL, 0);
-    expect_translate("15 before 20", many, sizeof many, 0, 0, PNF_OVER_LIMIT, NULL, 0);
-    expect_translate("5 before 15", many, sizeof many - 1, 0, 0, PNF_TABLE_SHORT, NULL, 0);
-}
-
 struct damaged {
     const char *what;
     uint32_t number;
@@ -507,7 +402,7 @@ struct damaged {
     uint8_t bytes[13];
 };
 
-/* The numbers of a file: the four calls on one give them, whatever else is wrong. */
+/* The numbers of a file: all four calls give them, whatever else is wrong. */
 static void damaged_files(void)
 {
     static const struct damaged files[] = {
@@ -576,10 +471,8 @@ static void null_pointers(void)
     check("compile nothing", pnf_compile(NULL, 0, NULL, 0, NULL, 0) == PNF_FILE_ENDS);
     check("run nothing", pnf_run(NULL, 0, NULL, 0, NULL, 0, NULL, 0) == PNF_FILE_ENDS);
     check("plan nothing", pnf_plan(NULL, 0, NULL, 0, NULL, 0) == PNF_FILE_ENDS);
-    check("translate nothing", pnf_translate(NULL, 0, NULL, 0, NULL, 0) == PNF_TABLE_SHORT);
     check("no tables", pnf_read(smallest, 4, NULL, 0) == PNF_OUTPUT_SHORT);
     check("no out", pnf_compile(smallest, 4, NULL, 0, NULL, 0) == PNF_OUTPUT_SHORT);
-    check("no out", pnf_translate(finite, sizeof finite, NULL, 0, NULL, 0) == PNF_OUTPUT_SHORT);
     check("no result", pnf_run(smallest, 4, NULL, 0, NULL, 0, NULL, 0) == PNF_OUTPUT_SHORT);
     check("no plan's result", pnf_plan(smallest, 4, NULL, 0, NULL, 0) == PNF_OUTPUT_SHORT);
     check("empty plan", pnf_plan(smallest, 4, NULL, 0, result, PNF_PLAN_RESULT_BYTES) == PNF_OK);
@@ -603,8 +496,6 @@ int main(void)
         planning();
         percents();
         refused_plans();
-        translating();
-        refused_tables();
         damaged_files();
         over_a_limit();
         null_pointers();

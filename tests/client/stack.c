@@ -11,7 +11,7 @@
 #include <string.h>
 #include <sys/mman.h>
 
-#define CALLS 5
+#define CALLS 4
 #define PAINT 0xa5
 #define STACK (PNF_STACK_BYTES + 64u * 1024u) /* and what starting a thread takes */
 
@@ -72,45 +72,12 @@ static void put_deepest(unsigned kind, enum way way)
     put_row(0, operator_row, 3); /* without a percent: 100 */
 }
 
-static uint8_t tables[PNF_FINITE_TABLES_BYTES(1, 1, PNF_MOST_EFFECTS, 1)];
-static size_t tables_len;
-
-static void put_words(const unsigned *words, int count)
-{
-    int i;
-    for (i = 0; i < count; i++) {
-        tables[tables_len++] = (uint8_t)(words[i] & 255);
-        tables[tables_len++] = (uint8_t)(words[i] >> 8);
-    }
-}
-
-/* A finite-domain task: a variable of one value, which 4,096 effects nested in that way assign. */
-static void put_deepest_tables(enum way way)
-{
-    static const unsigned head[] = {1, 0, 1, PNF_MOST_EFFECTS, 1, 0};
-    static const unsigned rows[] = {1, 0, 8, 0, 0, 5, 0, 0}; /* count, value, has 0, becomes 0 */
-    static const unsigned operator_row[] = {0, PNF_MOST_EFFECTS - 1, 1, 100};
-    unsigned i;
-
-    tables_len = 0;
-    put_words(head, 6);
-    put_words(rows, 8);
-    for (i = 1; i < PNF_MOST_EFFECTS; i++) {
-        unsigned row[3];
-        row[0] = way == UNDER ? 4 : 3;
-        row[1] = way == LEFT ? i - 1 : 0;
-        row[2] = way == LEFT ? 0 : i - 1;
-        put_words(row, 3);
-    }
-    put_words(operator_row, 4);
-}
-
 static uint32_t answer;
 
 static void *call_read(void *unused)
 {
-    static uint8_t unpacked[PNF_MOST_TABLES_BYTES];
-    answer = pnf_read(file, file_len, unpacked, sizeof unpacked);
+    static uint8_t tables[PNF_MOST_TABLES_BYTES];
+    answer = pnf_read(file, file_len, tables, sizeof tables);
     return unused;
 }
 
@@ -133,13 +100,6 @@ static void *call_plan(void *unused)
 {
     static uint8_t out[PNF_MOST_PLAN_BYTES], result[PNF_PLAN_RESULT_BYTES];
     answer = pnf_plan(file, file_len, out, sizeof out, result, sizeof result);
-    return unused;
-}
-
-static void *call_translate(void *unused)
-{
-    static uint8_t out[PNF_MOST_FILE_BYTES], result[PNF_TRANSLATE_RESULT_BYTES];
-    answer = pnf_translate(tables, tables_len, out, sizeof out, result, sizeof result);
     return unused;
 }
 
@@ -170,10 +130,9 @@ static size_t used(void *(*call)(void *))
 
 int main(void)
 {
-    static const char *const names[] = {"read", "compile", "run", "plan", "translate"};
-    static void *(*const calls[CALLS])(void *) = {call_read, call_compile, call_run, call_plan,
-                                                  call_translate};
-    size_t most[CALLS] = {0, 0, 0, 0, 0}, start = used(call_nothing);
+    static const char *const names[] = {"read", "compile", "run", "plan"};
+    static void *(*const calls[CALLS])(void *) = {call_read, call_compile, call_run, call_plan};
+    size_t most[CALLS] = {0, 0, 0, 0}, start = used(call_nothing);
     unsigned kind, failed = 0;
     enum way way;
     int i;
@@ -181,7 +140,6 @@ int main(void)
     for (kind = 3; kind <= 7; kind++)
         for (way = LEFT; way <= UNDER; way++) {
             put_deepest(kind, way);
-            put_deepest_tables(way);
             for (i = 0; i < CALLS; i++) {
                 size_t bytes = used(calls[i]) - start;
                 if (answer != PNF_OK && answer != PNF_OVER_LIMIT && answer != PNF_NO_PLAN)

@@ -1,5 +1,5 @@
 /*
- * One call of an entry on the smallest file or tables, with outputs just as long as the answer; the
+ * One call of an entry on the smallest file, with outputs just as long as the answer; the
  * word given picks the entry, "none" calls nothing. 'bash scripts/bench bytes' counts what
  * each call loads and stores: that of the program less that of "none".
  */
@@ -7,7 +7,6 @@
 #include <string.h>
 
 static const uint8_t file[] = {0x04, 0x01, 0x00, 0x10};
-static const uint8_t finite[PNF_FINITE_TABLES_BYTES(0, 1, 0, 0)] = {0, 0, 0, 0, 1, 0, 0, 0, 0, 0, 0, 0, 1};
 static uint8_t tables[PNF_TABLES_BYTES(0, 0, 1, 0, 0)];
 static uint8_t out[10];
 static uint8_t result[PNF_RUN_RESULT_BYTES];
@@ -24,7 +23,5 @@ int main(int argc, char **argv)
         return (int)pnf_run(file, sizeof file, NULL, 0, NULL, 0, result, sizeof result);
     if (strcmp(entry, "plan") == 0)
         return (int)pnf_plan(file, sizeof file, NULL, 0, result, PNF_PLAN_RESULT_BYTES);
-    if (strcmp(entry, "translate") == 0)
-        return (int)pnf_translate(finite, sizeof finite, out, 7, result, PNF_TRANSLATE_RESULT_BYTES);
     return 0;
 }

@@ -22,7 +22,7 @@ pub struct Read {
     pub tables: Vec<u8>,
 }
 
-/// What compiling, planning or translating leaves.
+/// What compiling or planning leaves.
 #[derive(Clone, Debug, PartialEq, Eq)]
 pub struct Given {
     pub number: u32,
@@ -51,20 +51,9 @@ pub fn read(file: &[u8], tables_length: usize) -> Read {
 }
 
 pub fn compile(file: &[u8], out_length: usize, result_length: usize) -> Given {
-    let answer = compiled_file(file);
-    given_file(answer, out_length, result_length, COMPILE_RESULT_SIZE)
-}
-
-/// A file in out and its length in result; 20 if either is too short.
-pub fn given_file(
-    answer: Result<Vec<u8>, Refusal>,
-    out_length: usize,
-    result_length: usize,
-    result_size: usize,
-) -> Given {
-    let answer = answer.and_then(|file| {
+    let answer = compiled_file(file).and_then(|file| {
         enough(out_length, file.len())?;
-        enough(result_length, result_size)?;
+        enough(result_length, COMPILE_RESULT_SIZE)?;
         Ok(file)
     });
     let number = number(&answer);

@@ -1,9 +1,9 @@
-//! The library's C entries. Buffers stand between guards, which must
+//! The library's four C entries. Buffers stand between guards, which must
 //! be whole afterwards; `Err` says which was not.
 
 use crate::entries::{Given, Read, Run};
 
-/// A file or tables, what they give, and a result.
+/// A file, what it gives, and a result.
 type Giving = unsafe extern "C" fn(
     file: *const u8,
     file_len: usize,
@@ -37,19 +37,6 @@ extern "C" {
     fn pnf_plan(
         file: *const u8,
         file_len: usize,
-        out: *mut u8,
-        out_len: usize,
-        result: *mut u8,
-        result_len: usize,
-    ) -> u32;
-}
-
-#[cfg(feature = "translate")]
-#[link(name = "entries", kind = "static")]
-extern "C" {
-    fn pnf_translate(
-        tables: *const u8,
-        tables_len: usize,
         out: *mut u8,
         out_len: usize,
         result: *mut u8,
@@ -123,28 +110,6 @@ pub fn plan(file: &[u8], out: usize, result: usize, fill: u8) -> Result<Given, S
     given(pnf_plan, file, out, result, fill)
 }
 
-#[cfg(feature = "translate")]
-pub fn translate(tables: &[u8], out: usize, result: usize, fill: u8) -> Result<Given, String> {
-    given(pnf_translate, tables, out, result, fill)
-}
-
-/// The same into these buffers, for the comparison of times.
-#[cfg(feature = "translate")]
-pub fn translate_quickly(tables: &[u8], out: &mut [u8], result: &mut [u8]) -> u32 {
-    let (out_len, result_len) = (out.len(), result.len());
-    // Each pointer and length come from one slice.
-    unsafe {
-        pnf_translate(
-            tables.as_ptr(),
-            tables.len(),
-            out.as_mut_ptr(),
-            out_len,
-            result.as_mut_ptr(),
-            result_len,
-        )
-    }
-}
-
 fn given(
     call: Giving,
     bytes: &[u8],
@@ -166,7 +131,7 @@ fn given(
             result_length,
         )
     };
-    file.unchanged(bytes, "what it reads")?;
+    file.unchanged(bytes, "file")?;
     Ok(Given {
         number,
         out: out.bytes("out")?,

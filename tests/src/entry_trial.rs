@@ -8,7 +8,7 @@ use crate::generate;
 use crate::harness::Verdict;
 use crate::random::Random;
 
-pub const FILLS: [u8; 4] = [0, 1, 0xa5, 0xff];
+const FILLS: [u8; 4] = [0, 1, 0xa5, 0xff];
 
 pub fn same_read(file: &[u8], tables_length: usize, fill: u8) -> Verdict {
     let expected = entries::read(file, tables_length);
@@ -51,8 +51,7 @@ pub fn same_plan(file: &[u8], out_length: usize, result_length: usize, fill: u8)
     same(file, call, found, expected)
 }
 
-/// Of a call on a file, or on tables, which are shown.
-pub fn same<T: PartialEq + std::fmt::Debug>(
+fn same<T: PartialEq + std::fmt::Debug>(
     file: &[u8],
     call: impl Fn() -> String,
     found: Result<T, String>,
@@ -66,7 +65,7 @@ pub fn same<T: PartialEq + std::fmt::Debug>(
         }
         Err(fault) => fault,
     };
-    Err(format!("  bytes {}\n  {}\n{what}", hex(file), call()))
+    Err(format!("  file {}\n  {}\n{what}", hex(file), call()))
 }
 
 /// Length and hexadecimal bytes; long ones are cut.
@@ -156,7 +155,7 @@ fn planning(random: &mut Random, file: &[u8]) -> Verdict {
 }
 
 /// Lengths near the needed one, and far from it.
-pub fn around(random: &mut Random, needed: usize) -> [usize; 5] {
+fn around(random: &mut Random, needed: usize) -> [usize; 5] {
     [
         needed,
         needed.saturating_sub(1),
@@ -167,7 +166,7 @@ pub fn around(random: &mut Random, needed: usize) -> [usize; 5] {
 }
 
 /// One of these lengths.
-pub fn near(random: &mut Random, needed: usize) -> usize {
+fn near(random: &mut Random, needed: usize) -> usize {
     let lengths = around(random, needed);
     random.pick(&lengths)
 }

@@ -1,5 +1,5 @@
-//! Another implementation of documents 01 and 02, written from their text
-//! alone and sharing no code with the library that it is compared with.
+//! Another implementation of document 01, written from its text alone and
+//! sharing no code with the library that it is compared with.
 
 pub mod atoms;
 pub mod best;
@@ -18,7 +18,6 @@ pub mod entry_calls;
 pub mod entry_trial;
 pub mod examples;
 pub mod file;
-pub mod finite;
 pub mod generate;
 pub mod harness;
 pub mod lent;
@@ -33,5 +32,3 @@ pub mod shrink;
 pub mod stack;
 pub mod stored;
 pub mod task;
-#[cfg(feature = "translate")]
-pub mod translate_trial;

@@ -1,5 +1,4 @@
-//! The stored task files: examples/*.task, and the fuzzer's in tests/corpus;
-//! the stored tables of a finite-domain task.
+//! The stored task files: examples/*.task, and the fuzzer's in tests/corpus.
 
 use std::fs;
 use std::io::Result;
@@ -18,10 +17,4 @@ pub fn files() -> Result<Vec<(PathBuf, Vec<u8>)>> {
     paths.sort();
     let with_bytes = |path: PathBuf| Ok((path.clone(), fs::read(path)?));
     paths.into_iter().map(with_bytes).collect()
-}
-
-/// The tables of examples/status.tables.
-pub fn tables() -> Result<Vec<u8>> {
-    let tests = Path::new(env!("CARGO_MANIFEST_DIR"));
-    fs::read(tests.join("../examples/status.tables"))
 }

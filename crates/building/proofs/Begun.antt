@@ -14,8 +14,8 @@ use Rattle.formula_builder.specs.declared.Step.{Step}
 use Rattle.formula_builder.specs.Inner.Index.{FirstTwo}
 use Rattle.formula_builder.specs.Inner.Held.{Store, store, held, twin_word, TwinsNamed, Within}
 use Rattle.formula_builder.proofs.Steps.{within_before}
-use Rattle.images.specs.Inner.Images.{image_at, Images}
-use Rattle.images.proofs.Memos.{steady_image_at, memo_blank}
+use Rattle.images.specs.Inner.Images.{image_at, memo_place, Images}
+use Rattle.images.proofs.Memos.{steady_image_at}
 use Rattle.variable_changes.specs.Inner.Stands.{Leaves}
 use Rattle.conditions.proofs.Memos.{effect_memo_blank}
 use Rattle.variable_changes.proofs.Standing.{stands_next, makes_image, leaves_full}
@@ -126,7 +126,7 @@ module _ (frame : Frame) (formulas effects operators : List ℕ) where
                           past_twins = λ j h. b.blank_originals j;
                           named = s.named originals;
                         };
-                    memo = memo_blank frame formulas scratch (held (size_at p) (store table originals)) b.imaged b.blank_scratch;
+                    memo = record { known = λ p i r h e. absurd (omega (arith, e, b.blank_scratch (memo_place frame p i))) };
                     effect_memo = effect_memo_blank frame formulas effects scratch (held (size_at p) (store table originals)) b.blank_scratch;
                   };
             };
@@ -152,8 +152,8 @@ module _ (frame : Frame) (formulas effects operators : List ℕ) where
               };
         })
 
-    module _ (q : p.full ≡ false) {f e : ℕ} (its_formula : f ≡ (operator_at operators p.operators).precondition)
-        (its_effect : e ≡ (operator_at operators p.operators).effect) where
+    module _ (q : p.full ≡ false) {f e : ℕ} (its-formula : f ≡ (operator_at operators p.operators).precondition)
+        (its-effect : e ≡ (operator_at operators p.operators).effect) where
       stood : Stood (operators_built frame formulas effects operators p.operators start).st frame formulas effects (size_at p) s scratch
       stood = t.taken.done q
 
@@ -161,8 +161,8 @@ module _ (frame : Frame) (formulas effects operators : List ℕ) where
       asks_operator =
           record {
             stands =
-                record { stands = stood.stands; noted = t.leaves.noted q; effect = omega (arith, its_effect, t.effect) };
-            formula = omega (arith, its_formula, t.precondition);
+                record { stands = stood.stands; noted = t.leaves.noted q; effect = omega (arith, its-effect, t.effect) };
+            formula = omega (arith, its-formula, t.precondition);
           }
 
       -- what operator p .operators gives in a state is what f and e give in the state that is held
@@ -171,7 +171,7 @@ module _ (frame : Frame) (formulas effects operators : List ℕ) where
           → let source = operator_at operators p.operators in
           step source.precondition source.effect (operators_built frame formulas effects operators p.operators start).st
           ≡ step f e (held (size_at p) s)
-      here step = rw (stood.state, its_formula, its_effect)
+      here step = rw (stood.state, its-formula, its-effect)
 
       one_more :
           (operators_built frame formulas effects operators (p.operators + 1) start).st

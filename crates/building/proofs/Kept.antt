@@ -14,7 +14,6 @@ use Rattle.normal_form.proofs.ShapeRules.{All, none, also, all_append}
 use Rattle.formula_builder.specs.Inner.Index.{three}
 use Rattle.formula_builder.specs.declared.Frame.{Frame}
 use Rattle.formula_builder.proofs.Stored.{three_before, three_at}
-use Rattle.images.specs.Inner.Images.{becoming}
 use Rattle.change_records.specs.Inner.Recorded.{acting, Recorded}
 use Rattle.change_records.proofs.Acting.{acting_all}
 use Rattle.change_records.proofs.Keeping.{same_changes, three_after}
@@ -34,7 +33,7 @@ module _ (frame : Frame) (formulas effects operators : List ℕ) where
       all : All (λ c. c.variable < frame.variables) (changes_here frame formulas effects operators o)
       all =
           unfold changes_here operator_here operator_built all_changes bind in
-          upwards_below frame.variables (omega arith) (changes_upwards (becoming frame) frame.variables _ _)
+          upwards_below frame.variables (omega arith) (changes_upwards frame.variables frame.variables _ _)
 
   pub many_suc :
       (n : ℕ)

@@ -14,7 +14,6 @@ use Rattle.normal_form.specs.Operators.{Built, built_operator, parts}
 use Rattle.formula_builder.specs.declared.Frame.{Frame}
 use Rattle.formula_builder.proofs.Stored.{upto_same}
 use Rattle.images.specs.Inner.Images.{source_rows, tree, image_at}
-use Rattle.images.proofs.Rows.{becoming_image}
 use Rattle.conditions.specs.Inner.Conditions.{effect_rows, effect_tree}
 use Rattle.operators.specs.Inner.Operator.{all_changes, operator_built, operator_here, operators_built}
 use Rattle.building.specs.Inner.Taken.{precondition_here, changes_here, whole_built}
@@ -48,15 +47,14 @@ made_here frame formulas effects operators o =
     }
 
 -- The task t is what the tables hold.
-module _ (t : Task) (frame : Frame) (formulas effects operators : List ℕ) (count goal : ℕ) (imaged : frame.copied ≡ 0)
-    (variables : length t.initial ≡ frame.variables)
+module _ (t : Task) (frame : Frame) (formulas effects operators : List ℕ) (count goal : ℕ) (variables : length t.initial ≡ frame.variables)
     (its_formulas : t.formulas ≡ source_rows frame formulas) (its_effects : t.effects ≡ effect_rows frame effects)
-    (its-count : length t.operators ≡ count) (its_operator : (o : ℕ) → o < count → operator_of t o ≡ operator_at operators o)
+    (its-count : length t.operators ≡ count) (its-operator : (o : ℕ) → o < count → operator_of t o ≡ operator_at operators o)
     (its-goal : t.goal ≡ goal) where
   same_operator :
       (o : ℕ) → o < count → (s : St) → (built_operator t o s).st ≡ (operator_here frame formulas effects operators o s).st
   unfolding built_operator operator_here operator_built all_changes image_at tree effect_tree effect_of_operator bind give
-  same_operator o h s = rw (becoming_image frame imaged, its_operator o h, variables, its_formulas, its_effects)
+  same_operator o h s = rw (its-operator o h, variables, its_formulas, its_effects)
 
   same_operators :
       (s : St)
@@ -67,7 +65,7 @@ module _ (t : Task) (frame : Frame) (formulas effects operators : List ℕ) (cou
 
   same_goal : image (length t.initial) plain (formula_of t.formulas t.goal) ≡ image_at frame formulas plain goal
   unfolding image_at tree
-  same_goal = rw (becoming_image frame imaged, variables, its_formulas, its-goal)
+  same_goal = rw (variables, its_formulas, its-goal)
 
   last : (s : St) → image_at frame formulas plain goal (each (length t.operators) (built_operator t) s).st ≡ whole_built frame formulas effects operators count goal s
   unfolding whole_built bind
@@ -104,7 +102,7 @@ module _ (t : Task) (frame : Frame) (formulas effects operators : List ℕ) (cou
         source = operator_at operators o;
       }
   unfolding built_operator operator_here operator_built all_changes image_at tree effect_tree effect_of_operator bind give
-  same_made o h s = rw (becoming_image frame imaged, its_operator o h, variables, its_formulas, its_effects)
+  same_made o h s = rw (its-operator o h, variables, its_formulas, its_effects)
 
   its_made :
       (o : ℕ)

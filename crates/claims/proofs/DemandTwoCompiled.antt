@@ -100,8 +100,8 @@ module _ (l : Lent) (room : Room) (h : Head) (success : (compiling l room).answe
 pub image_again : (n : ℕ) (p : Polarity) (f : Formula) → Steady (image n p f)
 image_again n p f = steady_image n p f
 
-pub condition_again : (n : ℕ) (p : Polarity) (l : Atom) (e : Effect) → Steady (condition (image n) p l e)
-condition_again n p l e = steady_condition (image n) (steady_image n) p l e
+pub condition_again : (n : ℕ) (p : Polarity) (l : Atom) (e : Effect) → Steady (condition n p l e)
+condition_again n p l e = steady_condition n p l e
 
 pub task_again : (t : Task) → Steady (parts t)
 task_again t = steady_parts t

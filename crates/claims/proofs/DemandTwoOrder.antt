@@ -93,23 +93,22 @@ module _ (n : ℕ) (a b : Formula) (s : St) (from : Grows start s) where
 module _ (n : ℕ) (p : Polarity) (l : Atom) (s : St) (from : Grows start s) where
   pub both_in_order :
       (e f : Effect)
-      → PairInOrder (opposite p) s (condition (image n) p l e) (condition (image n) p l f) (condition (image n) p l (both e f))
+      → PairInOrder (opposite p) s (condition n p l e) (condition n p l f) (condition n p l (both e f))
   unfolding condition
   both_in_order e f =
-      let steady = steady_condition (image n) (steady_image n) p l in
-      pair_in_order (opposite p) s (steady e) (steady f) (condition_stands (image n) (steady_image n) (image_stands n) p l e) from
+      pair_in_order (opposite p) s (steady_condition n p l e) (steady_condition n p l f) (condition_stands n p l e) from
 
   pub under_in_order :
-      (f : Formula) (e : Effect) → UnderInOrder p s (image n p f) (condition (image n) p l e) (condition (image n) p l (under f e))
-  under_in_order f e = under_ordered (image n) (steady_image n) (image_stands n) p l s from f e
+      (f : Formula) (e : Effect) → UnderInOrder p s (image n p f) (condition n p l e) (condition n p l (under f e))
+  under_in_order f e = under_ordered n p l s from f e
 
 -- Of variable v under effect e: A, then D; if neither is row 0, then N, and D becomes "D and N".
 pub changes_in_order :
     (n : ℕ) (e : Effect) (v : ℕ) (s : St)
     → Grows start s
-    → ChangesInOrder s (condition (image n) plain (sets v) e) (condition (image n) plain (clears v) e) (condition (image n) negated (sets v) e)
-    (changes_of (image n) e v)
-changes_in_order n e v s from = changes_ordered (image n) (steady_image n) (image_stands n) e v s from
+    → ChangesInOrder s (condition n plain (sets v) e) (condition n plain (clears v) e) (condition n negated (sets v) e)
+    (changes_of n e v)
+changes_in_order n e v s from = changes_ordered n e v s from
 
 module _ (t : Task) where
   abbrev width : ℕ
@@ -119,7 +118,7 @@ module _ (t : Task) where
   precondition_of o = image width plain (formula_of t.formulas (operator_of t o).precondition)
 
   abbrev changes_at : ℕ → ℕ → Build Changes
-  changes_at o = changes_of (image width) (effect_of_operator t o)
+  changes_at o = changes_of width (effect_of_operator t o)
 
   abbrev goal : Build ℕ
   goal = image width plain (formula_of t.formulas t.goal)
@@ -129,7 +128,7 @@ module _ (t : Task) where
       (o : ℕ) (s : St)
       → OperatorInOrder (length t.initial) s
       (image (length t.initial) plain (formula_of t.formulas (operator_of t o).precondition))
-      (changes_of (image (length t.initial)) (effect_of_operator t o))
+      (changes_of (length t.initial) (effect_of_operator t o))
       (built_operator t o s).st
   operator_in_order o s =
       record {
@@ -168,9 +167,9 @@ module _ (t : Task) where
       → let n = length t.initial in
       let e = effect_of_operator t o in
       let s = state_before t o v in
-      ChangesInOrder s (condition (image n) plain (sets v) e) (condition (image n) plain (clears v) e) (condition (image n) negated (sets v) e)
-      (changes_of (image n) e v)
-      × Grows (changes_of (image n) e v s).st (built t).st
+      ChangesInOrder s (condition n plain (sets v) e) (condition n plain (clears v) e) (condition n negated (sets v) e)
+      (changes_of n e v)
+      × Grows (changes_of n e v s).st (built t).st
   finished_in_order o v h k = (
     changes_in_order (length t.initial) (effect_of_operator t o) v (state_before t o v) (moment_from_start t o v),
     moment_stands t o v h k,

@@ -15,8 +15,3 @@ pub mod Refusals
 pub mod CheapestPlan
 pub mod OperatorRecords
 pub mod PlanEntry
-pub mod FiniteDomainNumbers
-pub mod FiniteDomainTranslating
-pub mod FiniteDomainRuns
-pub mod FiniteDomainExamples
-pub mod FiniteDomainEntry

@@ -61,7 +61,7 @@ given false number m e rest = broken (λ r. false≢true (e.1 r)) refl
 pub at_most : (a b : ℕ) → leb a b ≡ true ↔ a ≤ b
 at_most a b = (leb-true a b, le-leb a b)
 
-pub below : (a b : ℕ) → ltb a b ≡ true ↔ a < b
+below : (a b : ℕ) → ltb a b ≡ true ↔ a < b
 below a b = (ltb-true a b, lt-ltb a b)
 
 same : (a b : ℕ) → eqb a b ≡ true ↔ a ≡ b
@@ -81,7 +81,7 @@ tables_first true true true true true false g r m = refl
 tables_first true true true true true true false r m = refl
 tables_first true true true true true true true r m = refl
 
-pub parts_tested : (f e : ℕ) (o : Operator) → operator_kept f e o ≡ true ↔ PartsRule f e o
+parts_tested : (f e : ℕ) (o : Operator) → operator_kept f e o ≡ true ↔ PartsRule f e o
 unfolding operator_kept
 parts_tested f e o = (
   λ q.
@@ -91,7 +91,7 @@ parts_tested f e o = (
   λ r. and_both (lt-ltb o.precondition f r.formula) (lt-ltb o.effect e r.changes),
 )
 
-pub percent_tested : (o : Operator) → percent_kept o ≡ true ↔ o.percent ≤ 200
+percent_tested : (o : Operator) → percent_kept o ≡ true ↔ o.percent ≤ 200
 unfolding percent_kept
 percent_tested o = at_most o.percent 200
 
@@ -106,13 +106,13 @@ row_broken f e o n is = go (operator_kept f e o) refl (percent_kept o) refl is
     go true p true q is = absurd (omega arith)
 
 -- where the first number that is not 0 stands
-pub record Found (n : ℕ) (f : ℕ → ℕ) (number : ℕ) : Type 0 where
-  pub at : ℕ
-  pub below : at < n
-  pub clear : (k : ℕ) → k < at → f k ≡ 0
-  pub here : f at ≡ number
+record Found (n : ℕ) (f : ℕ → ℕ) (number : ℕ) : Type 0 where
+  at : ℕ
+  below : at < n
+  clear : (k : ℕ) → k < at → f k ≡ 0
+  here : f at ≡ number
 
-pub first_found : (n : ℕ) (f : ℕ → ℕ) (number : ℕ) → first_number n f ≡ suc number → Found n f (suc number)
+first_found : (n : ℕ) (f : ℕ → ℕ) (number : ℕ) → first_number n f ≡ suc number → Found n f (suc number)
 unfolding first_number or_else
 first_found zero f number e = absurd (omega arith)
 first_found (suc n) f number e = go (first_number n f) refl (first_found n f number) e
@@ -179,7 +179,7 @@ alone (suc n) = refl
 pub check_gives_the_first : (l : Lent) → tables_numbers l no_rule_left (refusal l)
 check_gives_the_first l = rw (alone (refusal l)) at (tables_given l no_rule_left 0 refl)
 
-pub not_zero : (n : ℕ) → eqb (suc n) 0 ≡ false
+not_zero : (n : ℕ) → eqb (suc n) 0 ≡ false
 not_zero n = ne_eqb (suc n) 0 (λ e. omega arith)
 
 -- Writing.
@@ -204,7 +204,7 @@ write_gives_the_first l n =
     (given (leb (length (file_of (task_of l))) n) 20 0 (at_most (length (file_of (task_of l))) n) (λ _. refl)))
 
 -- Compiling.
-pub compile_told : (n : ℕ) (t : Task) (room : Room) → compile_answer_number (outcome_by n t room).answer ≡ n
+compile_told : (n : ℕ) (t : Task) (room : Room) → compile_answer_number (outcome_by n t room).answer ≡ n
 unfolding outcome_by task_given nothing_given
 compile_told zero t room = refl
 compile_told (suc n) t room = refl
@@ -322,11 +322,11 @@ unfolding laid_by
 laid_told zero bytes n = refl
 laid_told (suc k) bytes n = refl
 
-pub limits_kept : (t : Task) → counts_kept (head_of t) ≡ true ↔ Limits t
+limits_kept : (t : Task) → counts_kept (head_of t) ≡ true ↔ Limits t
 unfolding head_of
 limits_kept t = counts_tested (head_of t)
 
-pub file_tested : (t : Task) (o r : ℕ) → leb (length (file_of t)) o && leb 4 r ≡ true ↔ FileFits t o r
+file_tested : (t : Task) (o r : ℕ) → leb (length (file_of t)) o && leb 4 r ≡ true ↔ FileFits t o r
 file_tested t o r =
     let n = length (file_of t) in (
       λ e.
@@ -395,14 +395,14 @@ module _ (file : List ℕ) (bytes : OfBytes file) where
       → ((k : ℕ) → number (rejected k) ≡ k)
       → ((t : Task) → Rules t → behind t (number (accepted t)))
       → FileNumber file behind (number (reading own file))
-  file_given behind number refusal_told rest = go (reading own file) refl
+  file_given behind number refusal-told rest = go (reading own file) refl
     where
       go : (o : Verdict) → reading own file ≡ o → FileNumber file behind (number (reading own file))
       go (accepted t) e =
           let a = (file_accepted_exactly_if own file t bytes).0 e in
           was_read t a.0 a.1 (rw e (rest t a.1))
       go (rejected k) e =
-          let n : number (reading own file) ≡ k = ap number e ∙ refusal_told k in
+          let n : number (reading own file) ≡ k = ap number e ∙ refusal-told k in
           not_read (rw n e) (λ z. omega (arith, told_some (rejected_by own file k e), n, z))
 
   pub read_entry_gives_the_first : (n : ℕ) → read_entry_numbers file n (read_entry file n).number

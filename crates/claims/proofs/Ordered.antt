@@ -11,7 +11,7 @@ use Rattle.task.specs.Run.{operator_of, effect_of_operator}
 use Rattle.normal_form.specs.Builder.{St, Got, Build, give, bind, each, start, Polarity, plain, negated, image_of_false, join, pair}
 use Rattle.normal_form.specs.Growth.{Grows, Steady}
 use Rattle.normal_form.specs.Image.{image}
-use Rattle.normal_form.specs.Conditions.{Becoming, condition}
+use Rattle.normal_form.specs.Conditions.{condition}
 use Rattle.normal_form.specs.Operators.{Changes, changes_of, built_operator}
 use Rattle.normal_form.specs.Finished.{built}
 use Rattle.normal_form.proofs.Growth.{longer, grows_trans, steady_join, steady_pair, steady_each}
@@ -98,110 +98,108 @@ pair_in_order p {l} {r} s ls rs lb from =
           ) (join_joins p a b y u (rw e at k));
     }
 
--- An effect condition under a formula, whatever it becomes, if that is steady and its row stands.
-module _ (becomes : Becoming) (steady : (q : Polarity) (f : Formula) → Steady (becomes q f)) (stand : (q : Polarity) (f : Formula) → Stands (becomes q f))
-    (p : Polarity) (l : Atom) (s : St) (from : Grows start s) where
+-- An effect condition under a formula.
+module _ (n : ℕ) (p : Polarity) (l : Atom) (s : St) (from : Grows start s) where
   none_is : (q : Polarity) → nothing_under q ≡ image_of_false q
   none_is plain = refl
   none_is negated = refl
 
   pub under_ordered :
-      (f : Formula) (e : Effect) → UnderInOrder p s (becomes p f) (condition becomes p l e) (condition becomes p l (under f e))
+      (f : Formula) (e : Effect) → UnderInOrder p s (image n p f) (condition n p l e) (condition n p l (under f e))
   under_ordered f e =
       record {
         begins = inner_first;
-        ends = λ q. under_false becomes p l f e s (q ∙ none_is p);
+        ends = λ q. under_false n p l f e s (q ∙ none_is p);
         order = λ q.
-            in_order s (condition becomes p l (under f e) s).st (steady_condition becomes steady p l e) (steady p f)
-            (condition_stands becomes steady stand p l e)
+            in_order s (condition n p l (under f e) s).st (steady_condition n p l e) (steady_image n p f)
+            (condition_stands n p l e)
             from
             (next q);
         adds = λ q. rw (is q) (join_adds p a.value c.value a.st);
         joins = λ q u k.
             let h : Grows a.st u = grows_trans (next q) k in
             rw (
-              value_later (steady p f) c.st u h,
-              value_later (steady_condition becomes steady p l e) s u (grows_trans ((steady p f).grow c.st) h),
-              value_later (steady_condition becomes steady p l (under f e)) s u k,
+              value_later (steady_image n p f) c.st u h,
+              value_later (steady_condition n p l e) s u (grows_trans ((steady_image n p f).grow c.st) h),
+              value_later (steady_condition n p l (under f e)) s u k,
               is q,
             ) (join_joins p a.value c.value a.st u (rw (is q) at k));
       }
     where
       c : Got ℕ
-      c = condition becomes p l e s
+      c = condition n p l e s
 
       a : Got ℕ
-      a = becomes p f c.st
+      a = image n p f c.st
 
-      is : (c.value ≡ nothing_under p → ⊥) → condition becomes p l (under f e) s ≡ join p a.value c.value a.st
-      is q = under_is becomes p l f e s (λ r. q (r ∙ sym (none_is p)))
+      is : (c.value ≡ nothing_under p → ⊥) → condition n p l (under f e) s ≡ join p a.value c.value a.st
+      is q = under_is n p l f e s (λ r. q (r ∙ sym (none_is p)))
 
-      inner_first : Grows c.st (condition becomes p l (under f e) s).st
-      inner_first = unfold condition bind in (steady_guarded becomes steady p f c.value).grow c.st
+      inner_first : Grows c.st (condition n p l (under f e) s).st
+      inner_first = unfold condition bind in (steady_guarded n p f c.value).grow c.st
 
-      next : (c.value ≡ nothing_under p → ⊥) → Grows a.st (condition becomes p l (under f e) s).st
+      next : (c.value ≡ nothing_under p → ⊥) → Grows a.st (condition n p l (under f e) s).st
       next q = rw (is q) ((steady_join p a.value c.value).grow a.st)
 
 -- A variable's changes.
-module _ (becomes : Becoming) (steady : (q : Polarity) (f : Formula) → Steady (becomes q f)) (stand : (q : Polarity) (f : Formula) → Stands (becomes q f))
-    (e : Effect) (v : ℕ) (s : St) (from : Grows start s) where
+module _ (n : ℕ) (e : Effect) (v : ℕ) (s : St) (from : Grows start s) where
   abbrev A : Got ℕ
-  A = condition becomes plain (sets v) e s
+  A = condition n plain (sets v) e s
 
   abbrev D : Got ℕ
-  D = condition becomes plain (clears v) e A.st
+  D = condition n plain (clears v) e A.st
 
   abbrev N : Got ℕ
-  N = condition becomes negated (sets v) e D.st
+  N = condition n negated (sets v) e D.st
 
   joined_is :
       (A.value ≡ 0 → ⊥)
       → (D.value ≡ 0 → ⊥)
       → let k = join plain D.value N.value N.st in
-      changes_of becomes e v s ≡ record { value = record { variable = v; adds = A.value; deletes = k.value }; st = k.st }
-  joined_is x y = changes_joined becomes e v s x y
+      changes_of n e v s ≡ record { value = record { variable = v; adds = A.value; deletes = k.value }; st = k.st }
+  joined_is x y = changes_joined n e v s x y
 
   alone_is :
       (A.value ≡ 0) ⊎ (D.value ≡ 0)
-      → changes_of becomes e v s ≡ record { value = record { variable = v; adds = A.value; deletes = D.value }; st = D.st }
-  alone_is q = changes_alone becomes e v s q
+      → changes_of n e v s ≡ record { value = record { variable = v; adds = A.value; deletes = D.value }; st = D.st }
+  alone_is q = changes_alone n e v s q
 
-  next : (A.value ≡ 0 → ⊥) → (D.value ≡ 0 → ⊥) → Grows N.st (changes_of becomes e v s).st
+  next : (A.value ≡ 0 → ⊥) → (D.value ≡ 0 → ⊥) → Grows N.st (changes_of n e v s).st
   next x y = rw (joined_is x y) ((steady_join plain D.value N.value).grow N.st)
 
   pub changes_ordered :
-      ChangesInOrder s (condition becomes plain (sets v) e) (condition becomes plain (clears v) e) (condition becomes negated (sets v) e)
-      (changes_of becomes e v)
+      ChangesInOrder s (condition n plain (sets v) e) (condition n plain (clears v) e) (condition n negated (sets v) e)
+      (changes_of n e v)
   changes_ordered =
-      let sa = steady_condition becomes steady plain (sets v) e in
-      let sd = steady_condition becomes steady plain (clears v) e in
-      let sn = steady_condition becomes steady negated (sets v) e in
-      let far : Grows A.st (changes_of becomes e v s).st = adds_grows becomes steady e v s in
-      let mid : Grows D.st (changes_of becomes e v s).st = deletes_grows becomes steady e v s in
+      let sa = steady_condition n plain (sets v) e in
+      let sd = steady_condition n plain (clears v) e in
+      let sn = steady_condition n negated (sets v) e in
+      let far : Grows A.st (changes_of n e v s).st = adds_grows n e v s in
+      let mid : Grows D.st (changes_of n e v s).st = deletes_grows n e v s in
       let later : Grows start A.st = grows_trans from (sa.grow s) in
       record {
-        order = in_order s (changes_of becomes e v s).st sa sd (condition_stands becomes steady stand plain (sets v) e) from mid;
+        order = in_order s (changes_of n e v s).st sa sd (condition_stands n plain (sets v) e) from mid;
         sets_under = λ u k.
-            ap (λ (r : Changes). r.adds) (value_later (steady_changes becomes steady e v) s u k)
+            ap (λ (r : Changes). r.adds) (value_later (steady_changes n e v) s u k)
             ∙ changes-adds
             ∙ sym (value_later sa s u (grows_trans far k));
         ends = λ q. ap (λ (r : Got Changes). r.st) (alone_is q);
         stays = λ q u k.
-            ap (λ (r : Changes). r.deletes) (value_later (steady_changes becomes steady e v) s u k)
+            ap (λ (r : Changes). r.deletes) (value_later (steady_changes n e v) s u k)
             ∙ ap (λ (r : Got Changes). r.value.deletes) (alone_is q)
             ∙ sym (value_later sd A.st u (grows_trans mid k));
-        conflict = λ x y. in_order A.st (changes_of becomes e v s).st sd sn (condition_stands becomes steady stand plain (clears v) e) later (next x y);
+        conflict = λ x y. in_order A.st (changes_of n e v s).st sd sn (condition_stands n plain (clears v) e) later (next x y);
         adds = λ x y. rw (joined_is x y) (join_adds plain D.value N.value N.st);
         joins = λ x y u k.
             rw (
               value_later sd A.st u (grows_trans mid k),
               value_later sn D.st u (grows_trans (next x y) k),
-              value_later (steady_changes becomes steady e v) s u k,
+              value_later (steady_changes n e v) s u k,
               joined_is x y,
             ) (join_joins plain D.value N.value N.st u (rw (joined_is x y) at k));
       }
     where
-      changes-adds : (changes_of becomes e v s).value.adds ≡ A.value
+      changes-adds : (changes_of n e v s).value.adds ≡ A.value
       changes-adds = unfold changes_of bind give in refl
 
 -- one step after another
@@ -219,7 +217,7 @@ module _ (t : Task) (o : ℕ) where
   precondition = image width plain (formula_of t.formulas (operator_of t o).precondition)
 
   abbrev changes : ℕ → Build Changes
-  changes = changes_of (image width) (effect_of_operator t o)
+  changes = changes_of width (effect_of_operator t o)
 
   moment : (w : ℕ) → (each w changes (precondition (each o (built_operator t) start).st).st).st ≡ state_before t o w
   unfolding state_before
@@ -232,13 +230,13 @@ module _ (t : Task) (o : ℕ) where
       rw (← moment v)
       (grows_trans ((steady_each o (steady_operator t)).grow start)
       (grows_trans ((steady_image width plain _).grow _)
-      ((steady_each v (steady_changes (image width) (steady_image width) (effect_of_operator t o))).grow _)))
+      ((steady_each v (steady_changes width (effect_of_operator t o))).grow _)))
 
   pub moment_stands :
       (v : ℕ)
       → o < length t.operators
       → v < length t.initial
-      → Grows (changes_of (image (length t.initial)) (effect_of_operator t o) v (state_before t o v)).st (built t).st
+      → Grows (changes_of (length t.initial) (effect_of_operator t o) v (state_before t o v)).st (built t).st
   moment_stands v h k =
       let g : Grows (state_before t o (suc v)) (built t).st = rw (moment (suc v)) at (moment_grows t o (suc v) h k) in
       unfold state_before behind in g

@@ -26,7 +26,7 @@ implies_the_other_way o =
 
 -- "set v0 under v1, and set v0 under v2", the right effect first: v2 is row 2 and v1 row 3
 abbrev set_under : ℕ → Build ℕ
-set_under v = condition (image 3) plain (sets 0) (under (variable v) (atomic (sets 0)))
+set_under v = condition 3 plain (sets 0) (under (variable v) (atomic (sets 0)))
 
 pub both_the_other_way : PairInOrder negated start (set_under 1) (set_under 2) (pair negated (set_under 2) (set_under 1)) → ⊥
 unfolding give bind place including same_row row variable_row start choice join_as join pair literal image guarded condition
@@ -63,13 +63,13 @@ abbrev effect : Effect
 effect = both (under (variable 0) (atomic (sets 1))) (under (variable 2) (atomic (clears 1)))
 
 abbrev A : Build ℕ
-A = condition (image 3) plain (sets 1) effect
+A = condition 3 plain (sets 1) effect
 
 abbrev D : Build ℕ
-D = condition (image 3) plain (clears 1) effect
+D = condition 3 plain (clears 1) effect
 
 abbrev N : Build ℕ
-N = condition (image 3) negated (sets 1) effect
+N = condition 3 negated (sets 1) effect
 
 abbrev before_d : Build Changes
 before_d =

@@ -68,13 +68,13 @@ zero_past n words k e h =
 pub words_past : (n : ℕ) (words : List ℕ) → length words ≤ n → ZeroPast (length words) n (words ++ replicate (n - length words) 0)
 words_past n words h = zero_past n words (length words) refl h
 
-pub rows_past :
+rows_past :
     (n : ℕ) (rows : List Row)
     → 3 * length rows ≤ n
     → ZeroPast (3 * length rows) n (words_of rows ++ replicate (n - length (words_of rows)) 0)
 rows_past n rows h = zero_past n (words_of rows) (3 * length rows) (length_words rows) h
 
-pub operators_past :
+operators_past :
     (n : ℕ) (operators : List Operator)
     → operator_width * length operators ≤ n
     → ZeroPast (operator_width * length operators) n (operator_words operators ++ replicate (n - length (operator_words operators)) 0)

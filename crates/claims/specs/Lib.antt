@@ -8,6 +8,3 @@ pub mod Files
 pub mod Program
 pub mod CheapestPlan
 pub mod OperatorRecords
-pub mod FiniteDomain
-pub mod FiniteDomainExamples
-pub mod FiniteDomainEntry

@@ -111,7 +111,7 @@ unfoldable pub state_before : Task → (o v : ℕ) → St
 state_before t o v =
     let n = length t.initial in
     let s = behind (built_operator t) o start in
-    behind (changes_of (image n) (effect_of_operator t o)) v
+    behind (changes_of n (effect_of_operator t o)) v
     (image n plain (formula_of t.formulas (operator_of t o).precondition) s).st
 
 -- A task's building from s to `end`: its operators in order, then the goal; nothing else. With the goal first, a goal "not v1" and an operator that

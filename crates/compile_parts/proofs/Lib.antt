@@ -1,4 +1,3 @@
 pub mod Asked
 pub mod Batched
 pub mod Written
-pub mod Copied

@@ -6,7 +6,6 @@ mod copy;
 mod last;
 mod whole;
 
-pub use copy::copy_words;
 use formula_builder::Frame;
 pub use last::{finish, no_room};
 pub use whole::build;

@@ -1,10 +1,16 @@
 -- Tables that are all 0. Assumes nothing.
 use Prim.Native.Nat.{ℕ}
 use mathlib.Core.Path.{◌≡◌, sym, ap, ◌∙◌}
-use lib.ListN.{length, replicate, length-replicate}
+use mathlib.Core.List.{List}
+use lib.ListN.{length, get_or, replicate, length-replicate}
 use Rattle.normal_form.specs.Compiled.{Room}
+use Rattle.building.specs.Inner.Taken.{Zeros}
+use Rattle.compile_parts.proofs.Asked.{zero_at}
 use Rattle.compiler.specs.Inner.Fills.{Blanked}
 use Rattle.compiler.specs.Tables.{Tables, room_of}
+
+pub zeros : (l : List ℕ) → l ≡ replicate (length l) 0 → Zeros l
+zeros l e j = ap (λ (m : List ℕ). get_or m j 0) e ∙ zero_at (length l) j
 
 -- length by length
 pub as_long :

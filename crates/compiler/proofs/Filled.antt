@@ -33,7 +33,8 @@ use Rattle.compile_parts.specs.Inner.Finishes.{Outputs, outputs, rules_of, Stand
 use Rattle.compiler.specs.Inner.Fills.{Counted, counts, lent_of, Begins, Holds}
 use Rattle.compiler.specs.Tables.{Tables, tables, room_of}
 use Rattle.compile_parts.proofs.Asked.{zero_at}
-use Rattle.compile_parts.proofs.Copied.{zeros, copied_rows}
+use Rattle.compiler.proofs.Cleared.{zeros}
+use Rattle.compiler.proofs.Copied.{copied_rows}
 use Rattle.compiler.proofs.Source.{long, source, its_variables, few_effects}
 use Rattle.compiler.proofs.Recalled.{in_order}
 use Rattle.compiler.proofs.Linked.{its_formulas, its_effects, precondition_below, effect_below, goal_below, state_built, goal_built, assembled_is, few_changes}
@@ -69,7 +70,6 @@ module _ {g : Counted} {x : Tables} (b : Begins g x) where
               limit = few_effects (lent_of g) b.passes;
               down = rw (its_effects g b.passes) at e;
             };
-        imaged = b.imaged;
         twins = b.twins_space;
         variables = b.variables_limit;
         blank_originals = zeros x.twins b.blank.twins;
@@ -104,14 +104,14 @@ module _ {g : Counted} {x : Tables} (b : Begins g x) where
     built_over a q fit =
         let w = building_within t (room_of x) g.frame.rows g.frame.twins g.room (rw variables_are a) fit (built t).st (grows_refl (built t).st) in
         let v : Within g.frame (built t).st = record { rows = w.rows_within; twins = w.twins_within } in
-        f.over q (rw (state_built g b.passes b.imaged) at v) (few_changes g b.passes b.imaged fit.limits.effects)
+        f.over q (rw (state_built g b.passes) at v) (few_changes g b.passes fit.limits.effects)
 
     module _ (q : r.full ≡ false) where
       w : Whole g.frame g.formulas g.effects g.operators g.count g.goal mid memo records r
       w = f.done q
 
       held-is : held (size_of r) mid ≡ (built (task_of (lent_of g))).st
-      held-is = sym (state_built g b.passes b.imaged ∙ w.stood.state)
+      held-is = sym (state_built g b.passes ∙ w.stood.state)
 
       ready : Ready g.frame (size_of r) mid
       ready = w.stood.stands.ready
@@ -134,8 +134,8 @@ module _ {g : Counted} {x : Tables} (b : Begins g x) where
             variables_are,
           )
 
-      rows_there : 3 * r.rows ≤ length mid.table
-      rows_there = omega (arith, ready.rows.within, ready.rows.room)
+      rows-there : 3 * r.rows ≤ length mid.table
+      rows-there = omega (arith, ready.rows.within, ready.rows.room)
 
       rows_fit : 3 * r.rows ≤ length x.formulas
       rows_fit = omega (arith, ready.rows.within, b.rows_space)
@@ -169,13 +169,13 @@ module _ {g : Counted} {x : Tables} (b : Begins g x) where
                   bits = λ i k. omega (arith, initial_held (lent_of g) i k, s.initial_bits i (omega (arith, variables_are)));
                 };
             limit = omega (arith, ready.rows.within, ready.rows.limit);
-            there = rows_there;
+            there = rows-there;
             space = rows_fit;
           }
 
       rules-are : rules_of (counts g) r g.operators mid.originals records ≡ assembled (task_of (lent_of g))
       rules-are =
-          rw twins_held (sym (assembled_is g b.passes b.imaged records w.kept))
+          rw twins_held (sym (assembled_is g b.passes records w.kept))
 
       rows_are : upto r.rows (row_at mid.table) ≡ (finished (task_of (lent_of g))).formulas
       unfolding finished held
@@ -200,8 +200,8 @@ module _ {g : Counted} {x : Tables} (b : Begins g x) where
         unfolding finished
         effects-many = h.effect_rows
 
-        it_fits : Fits (finished (task_of (lent_of g))) (room_of x)
-        it_fits =
+        it-fits : Fits (finished (task_of (lent_of g))) (room_of x)
+        it-fits =
             fits_if t (room_of x) (source (lent_of g) b.passes)
             (omega (arith, variables_are, twins-many, ready.twins, b.variables_limit))
             (omega (arith, variables_are, twins-many, ready.twins, b.initial_space))
@@ -223,11 +223,11 @@ module _ {g : Counted} {x : Tables} (b : Begins g x) where
               formulas = rows-many i;
               effects = effects-many i;
               operators = (finished_operators t ∙ length_operators (lent_of g)) i;
-              goal = goal_there i;
+              goal = goal-there i;
             }
           where
-            goal_there : (finished (task_of (lent_of g))).goal ≡ r.row
-            goal_there = unfold finished in (goal_built g b.passes b.imaged ∙ w.value)
+            goal-there : (finished (task_of (lent_of g))).goal ≡ r.row
+            goal-there = unfold finished in (goal_built g b.passes ∙ w.value)
 
         initial-words : y.values ≡ padded (length x.initial) (finished (task_of (lent_of g))).initial
         initial-words =
@@ -260,7 +260,7 @@ module _ {g : Counted} {x : Tables} (b : Begins g x) where
             → Holds (lent_of g) x (tables y.values mid.originals y.table y.effects y.operators memo2) z
         it-holds long-originals long-out long-outs =
             record {
-              fits = it_fits;
+              fits = it-fits;
               head = heads ∙ ap (λ (n : Filled). record { variables = g.frame.variables + n.twins; twins = n.twins; formulas = n.rows; effects = n.effects; operators = g.count; goal = n.goal }) (sym e.answer);
               initial = initial-words;
               twins =
@@ -268,7 +268,7 @@ module _ {g : Counted} {x : Tables} (b : Begins g x) where
                   ∙ ap₂ padded long-originals twins-are;
               formulas =
                   e.table
-                  ∙ copied_rows mid.table x.formulas r.rows rows_there rows_fit b.blank.formulas
+                  ∙ copied_rows mid.table x.formulas r.rows rows-there rows_fit b.blank.formulas
                   ∙ ap (λ (k : List Row). padded (length x.formulas) (words_of k)) rows_are;
               effects = unfold finished in (h.effect_words ∙ ap (λ (m : ℕ). padded m (words_of (assembled t).effects)) long-out);
               operators = unfold finished in (h.held_operators ∙ ap (λ (m : ℕ). padded m (operator_words (assembled t).operators)) long-outs);

@@ -1,3 +1,4 @@
+pub mod Copied
 pub mod Recalled
 pub mod Source
 pub mod Linked

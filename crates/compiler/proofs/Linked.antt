@@ -47,21 +47,19 @@ module _ (g : Counted) (passes : refusal (lent_of g) ≡ 0) where
 
   -- what is built is what the definition builds
   pub state_built :
-      g.frame.copied ≡ 0
-      → (built (task_of (lent_of g))).st
+      (built (task_of (lent_of g))).st
       ≡ (whole_built g.frame g.formulas g.effects g.operators g.count g.goal start).st
   unfolding built
-  state_built imaged =
-      same_state t frame g.formulas g.effects g.operators g.count g.goal imaged (its_variables (lent_of g) passes) its_formulas
+  state_built =
+      same_state t frame g.formulas g.effects g.operators g.count g.goal (its_variables (lent_of g) passes) its_formulas
       its_effects (length_operators (lent_of g)) operator_is goal_is start
 
   pub goal_built :
-      g.frame.copied ≡ 0
-      → (built (task_of (lent_of g))).value.goal
+      (built (task_of (lent_of g))).value.goal
       ≡ (whole_built g.frame g.formulas g.effects g.operators g.count g.goal start).value
   unfolding built
-  goal_built imaged =
-      same_value t frame g.formulas g.effects g.operators g.count g.goal imaged (its_variables (lent_of g) passes) its_formulas
+  goal_built =
+      same_value t frame g.formulas g.effects g.operators g.count g.goal (its_variables (lent_of g) passes) its_formulas
       its_effects (length_operators (lent_of g)) operator_is goal_is start
 
   module _ (o : ℕ) (h : o < g.count) where
@@ -78,12 +76,11 @@ module _ (g : Counted) (passes : refusal (lent_of g) ≡ 0) where
 
   -- what is assembled is so from the operators that are built
   assembled_made :
-      g.frame.copied ≡ 0
-      → assembled (task_of (lent_of g))
+      assembled (task_of (lent_of g))
       ≡ assemble g.frame.variables (built (task_of (lent_of g))).st.twins unassembled
       (upto g.count (made_here g.frame g.formulas g.effects g.operators))
   unfolding assembled
-  assembled_made imaged =
+  assembled_made =
       rw (its_variables (lent_of g) passes)
       (ap (assemble g.frame.variables (built t).st.twins unassembled) all_made)
     where
@@ -92,31 +89,29 @@ module _ (g : Counted) (passes : refusal (lent_of g) ≡ 0) where
           ≡ upto g.count (made_here g.frame g.formulas g.effects g.operators)
       all_made =
           unfold built in
-          same_operators_made t frame g.formulas g.effects g.operators g.count g.goal imaged (its_variables (lent_of g) passes) its_formulas
+          same_operators_made t frame g.formulas g.effects g.operators g.count g.goal (its_variables (lent_of g) passes) its_formulas
           its_effects (length_operators (lent_of g)) operator_is goal_is
 
   -- and from what was recorded of them
   pub assembled_is :
-      g.frame.copied ≡ 0
-      → (records : List ℕ)
+      (records : List ℕ)
       → AllKept g.frame g.formulas g.effects g.operators records g.count (many g.frame g.formulas g.effects g.operators g.count)
       → assembled (task_of (lent_of g)) ≡ assembled_in g.frame.variables (built (task_of (lent_of g))).st.twins g.operators records g.count
-  assembled_is imaged records all =
-      assembled_made imaged
+  assembled_is records all =
+      assembled_made
       ∙ sym
       (recalled frame g.formulas g.effects g.operators records g.count all.each g.frame.variables
       (built t).st.twins)
 
   pub few_changes :
-      g.frame.copied ≡ 0
-      → length (finished (task_of (lent_of g))).effects ≤ 4096
+      length (finished (task_of (lent_of g))).effects ≤ 4096
       → many g.frame g.formulas g.effects g.operators g.count ≤ 2048
   unfolding finished
-  few_changes imaged h =
+  few_changes h =
       omega (
         arith,
         h,
-        ap (λ (a : Assembled). length a.effects) (assembled_made imaged),
+        ap (λ (a : Assembled). length a.effects) assembled_made,
         made_more frame g.formulas g.effects g.operators g.frame.variables (built t).st.twins g.count,
       )
 

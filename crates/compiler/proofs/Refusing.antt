@@ -30,8 +30,8 @@ module _ (l : Lent) (room : Room) where
     some_twins d = refused 12 (by_twins l room passes d)
 
     module _ (none : l.head.twins ≡ 0) where
-      pub short_scratch : room.scratch < 2 * l.head.formulas + 2 * l.head.effects → Numbered l room 14
-      short_scratch h = refused 13 (by_scratch l room passes none h)
+      pub short-scratch : room.scratch < 2 * l.head.formulas + 2 * l.head.effects → Numbered l room 14
+      short-scratch h = refused 13 (by_scratch l room passes none h)
 
       module _ (memo : 2 * l.head.formulas + 2 * l.head.effects ≤ room.scratch) where
         abbrev t : Task

@@ -38,7 +38,6 @@ module _ {c r : Counts} {i f e o : List ℕ} {x : Tables} (k : Fewer c r) where
         begins =
             record {
               passes = b.passes;
-              imaged = b.imaged;
               blank = b.blank;
               memo = b.memo;
               rows_space = omega (arith, b.rows_space);

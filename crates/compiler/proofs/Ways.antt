@@ -1,7 +1,7 @@
 -- From the numbers to filling, and the ways out of compiling. Assumes nothing.
 use Prim.Native.Nat.{ℕ, ◌+◌, ◌/◌, ◌≤◌}
 use native.Mathlib.Omega.{arith}
-use mathlib.Core.Path.{◌≡◌, refl, sym, ap, ◌∙◌}
+use mathlib.Core.Path.{◌≡◌, sym, ap, ◌∙◌}
 use mathlib.Core.Bool.{true, false}
 use mathlib.Core.List.{List, []}
 use lib.ListN.{length, take, replicate}
@@ -114,7 +114,6 @@ module _ {l : Lent} {x : Tables} (p : Passed l (room_of x)) where
           begins =
               record {
                 passes = still_passes l p.untwinned p.passes;
-                imaged = refl;
                 blank = blank;
                 memo = p.memo;
                 rows_space = omega (arith, r.second);

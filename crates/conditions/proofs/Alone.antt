@@ -13,11 +13,11 @@ use Rattle.task.specs.Semantics.{Formula}
 use Rattle.task.specs.Rules.{no_row, EffectRule}
 use Rattle.task.proofs.Bounded.{length_upto, getD_upto}
 use Rattle.normal_form.specs.Builder.{Build, give, bind, pair, Polarity, plain, negated, opposite, image_of_false, image_of_true}
-use Rattle.normal_form.specs.Conditions.{Becoming, guarded}
+use Rattle.normal_form.specs.Conditions.{guarded}
 use Rattle.formula_builder.specs.declared.Words.{Words}
 use Rattle.formula_builder.specs.declared.Frame.{Frame}
 use Rattle.formula_builder.specs.Inner.Held.{side, row_of}
-use Rattle.images.specs.Inner.Images.{tree, becoming}
+use Rattle.images.specs.Inner.Images.{tree}
 use Rattle.atom_sets.specs.Inner.Sets.{lacks, Sets}
 use Rattle.conditions.specs.declared.Target.{Target}
 use Rattle.conditions.specs.Inner.Conditions.{atom_of, acts, atom_row, effect_rows, EffectSource, Unnamed, AtomSets}
@@ -31,10 +31,10 @@ idle_pair plain = join_with_left negated 0
 idle_pair negated = join_with_left plain 1
 
 -- and a formula over what folds away is not built
-pub idle_guard : (becomes : Becoming) (p : Polarity) (f : Formula) → bind (give (image_of_false p)) (λ c. guarded becomes p f c) ≡ give (image_of_false p)
+pub idle_guard : (n : ℕ) (p : Polarity) (f : Formula) → bind (give (image_of_false p)) (λ c. guarded n p f c) ≡ give (image_of_false p)
 unfolding bind give guarded
-idle_guard becomes plain f = refl
-idle_guard becomes negated f = refl
+idle_guard n plain f = refl
+idle_guard n negated f = refl
 
 module _ (frame : Frame) (formulas effects scratch : List ℕ) (source : EffectSource frame effects scratch) (i : ℕ) (h : i < frame.effects) where
   -- with the words w
@@ -66,8 +66,8 @@ module _ (frame : Frame) (formulas effects scratch : List ℕ) (source : EffectS
               let p = side t.negated in
               let f = tree frame formulas (row_at effects i).a in
               of_under frame formulas effects scratch source i h t k
-              ∙ ap (λ (m : Build ℕ). bind m (λ c. guarded (becoming frame) p f c)) (l.idle t c e)
-              ∙ idle_guard (becoming frame) p f;
+              ∙ ap (λ (m : Build ℕ). bind m (λ c. guarded frame.variables p f c)) (l.idle t c e)
+              ∙ idle_guard frame.variables p f;
         }
 
     unnamed_empty : (row_at effects i).kind ≡ 0 → Unnamed frame formulas effects clear v i

@@ -19,8 +19,8 @@ use Rattle.formula_builder.specs.declared.Size.{Size}
 use Rattle.formula_builder.specs.declared.Step.{Step}
 use Rattle.formula_builder.specs.Inner.Held.{Store, row_of, held, size_of, stepped, side}
 use Rattle.formula_builder.proofs.Steps.{builds_done, falsity_small}
-use Rattle.images.specs.Inner.Images.{tree, becoming, image_at, Images, Asks as AsksImage}
-use Rattle.images.proofs.Memos.{steady_becoming, steady_image_at}
+use Rattle.images.specs.Inner.Images.{tree, image_at, Images, Asks as AsksImage}
+use Rattle.images.proofs.Memos.{steady_image_at}
 use Rattle.atom_sets.specs.Inner.Sets.{lacks, InSet}
 use Rattle.conditions.specs.declared.Target.{Target}
 use Rattle.conditions.specs.Inner.Conditions.{atom_of, acts, atom_row, condition_at, AsksKept, Recalls, Asks, Conditions}
@@ -43,7 +43,7 @@ atom_small t w = go (acts (atom_of t) _ w.a)
     go true = truth_small (side t.negated)
     go false = falsity_small (side t.negated)
 
--- a frame that is the same, as six numbers
+-- a frame that is the same, as five numbers
 pub lacks_framed :
     {f g : Frame} (notes : List ℕ) (clear : Bool) (v e : ℕ) {b : Bool} → f ≡ g → b ≡ lacks f notes clear v e → b ≡ lacks g notes clear v e
 lacks_framed notes clear v e p h = rw (← p) h
@@ -258,7 +258,7 @@ module _ {frame : Frame} {formulas effects notes : List ℕ} {t : Target} {at : 
     (a : Asks frame formulas effects notes t at before scratch e) (four : (row_at effects e).kind ≡ 4) (w : Words) (q : row_of w ≡ row_at effects e)
   where
     abbrev over : ℕ → Build ℕ
-    over c = guarded (becoming frame) (side t.negated) (tree frame formulas w.a) c
+    over c = guarded frame.variables (side t.negated) (tree frame formulas w.a) c
 
     pub inner_lower : (w.a < frame.formulas) × (w.b < e)
     inner_lower =
@@ -278,7 +278,7 @@ module _ {frame : Frame} {formulas effects notes : List ℕ} {t : Target} {at : 
           s.full ≡ true → Conditions (condition_at frame formulas effects t e) frame formulas effects notes₁ at before mid s1 s
       inner-full g =
           conditions_as under_reads
-          (conditions_stop (λ c. over c) (λ c. steady_guarded (becoming frame) (steady_becoming frame) (side t.negated) (tree frame formulas w.a) c) x g)
+          (conditions_stop (λ c. over c) (λ c. steady_guarded frame.variables (side t.negated) (tree frame formulas w.a) c) x g)
 
       module _ (g : s.full ≡ false) where
         -- what is left gives the whole

@@ -141,10 +141,7 @@ memo_kept :
     → Memo frame formulas scratch s
     → Memo frame formulas scratch' s
 memo_kept {frame} {scratch = scratch} {scratch' = scratch'} same m =
-    record {
-      known = λ p i r h w. m.known p i r h (sym (same (memo_place frame p i) (place_within frame p i h)) ∙ w);
-      full = λ c p i h w. m.full c p i h (sym (same (memo_place frame p i) (place_within frame p i h)) ∙ w);
-    }
+    record { known = λ p i r h w. m.known p i r h (sym (same (memo_place frame p i) (place_within frame p i h)) ∙ w) }
 
 module _ {m : Build ℕ} {frame : Frame} {formulas effects notes : List ℕ} {at : Size} {before after : Store} {s2 : List ℕ} {r : Step} where
   pub conditions_as :

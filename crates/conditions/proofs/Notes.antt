@@ -20,8 +20,8 @@ use Rattle.formula_builder.specs.declared.Frame.{Frame}
 use Rattle.formula_builder.specs.declared.Size.{Size}
 use Rattle.formula_builder.specs.declared.Step.{Step}
 use Rattle.formula_builder.specs.Inner.Held.{Store, side, Builds}
-use Rattle.images.specs.Inner.Images.{becoming, Known}
-use Rattle.images.proofs.Memos.{steady_becoming, known_grows}
+use Rattle.images.specs.Inner.Images.{Known}
+use Rattle.images.proofs.Memos.{known_grows}
 use Rattle.atom_sets.specs.Inner.Sets.{sets_end}
 use Rattle.atom_sets.proofs.Places.{sets_behind, lacks_same}
 use Rattle.conditions.specs.declared.Target.{Target}
@@ -31,7 +31,7 @@ pub steady_condition_at :
     (frame : Frame) (formulas effects : List ℕ) (t : Target) (e : ℕ) → Steady (condition_at frame formulas effects t e)
 unfolding condition_at
 steady_condition_at frame formulas effects t e =
-    steady_condition (becoming frame) (steady_becoming frame) (side t.negated) (atom_of t) (effect_tree frame formulas effects e)
+    steady_condition frame.variables (side t.negated) (atom_of t) (effect_tree frame formulas effects e)
 
 pub noted_grows :
     {frame : Frame} {formulas effects notes : List ℕ} {s s' : St}

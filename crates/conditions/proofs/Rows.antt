@@ -14,11 +14,11 @@ use Rattle.task.proofs.Bounded.{length_upto, getD_upto}
 use Rattle.task.proofs.Trees.{effect_unfolds}
 use Rattle.task.specs.Inner.Rows.{EffectKept}
 use Rattle.normal_form.specs.Builder.{Build, give, bind, join, pair, Polarity, plain, negated, opposite, image_of_false, image_of_true}
-use Rattle.normal_form.specs.Conditions.{Becoming, guarded, condition}
+use Rattle.normal_form.specs.Conditions.{guarded, condition}
 use Rattle.formula_builder.specs.declared.Frame.{Frame}
 use Rattle.formula_builder.specs.Inner.Held.{side}
 use Rattle.formula_builder.proofs.Steps.{join_left_false, join_right_false, join_left_true, join_right_true}
-use Rattle.images.specs.Inner.Images.{source_rows, tree, becoming}
+use Rattle.images.specs.Inner.Images.{source_rows, tree}
 use Rattle.conditions.specs.declared.Target.{Target}
 use Rattle.conditions.specs.Inner.Conditions.{atom_of, acts, atom_row, effect_rows, effect_tree, condition_at, EffectSource}
 
@@ -44,12 +44,12 @@ module _ (p : Polarity) (x : ℕ) where
       go (no n) (no k) = join_right_true p x (image_of_true p) n (true_apart p) k refl
 
 -- The condition of a row by its kind, over the formula f and the effects d and g that its words name.
-module _ (becomes : Becoming) (p : Polarity) (l : Atom) (a : ℕ) (f : Formula) (d g : Effect) where
+module _ (n : ℕ) (p : Polarity) (l : Atom) (a : ℕ) (f : Formula) (d g : Effect) where
   atom_condition :
       (k : ℕ)
       → (k ≡ 3 → ⊥)
       → (k ≡ 4 → ⊥)
-      → condition becomes p l (effect_node (effect_kind k) a f d g) ≡ give (cond (acts l (effect_kind k) a) (image_of_true p) (image_of_false p))
+      → condition n p l (effect_node (effect_kind k) a f d g) ≡ give (cond (acts l (effect_kind k) a) (image_of_true p) (image_of_false p))
   unfolding condition effect_node effect_kind acts
   atom_condition zero h i = refl
   atom_condition (suc zero) h i = refl
@@ -61,14 +61,14 @@ module _ (becomes : Becoming) (p : Polarity) (l : Atom) (a : ℕ) (f : Formula) 
   both_condition :
       (k : ℕ)
       → k ≡ 3
-      → condition becomes p l (effect_node (effect_kind k) a f d g) ≡ pair (opposite p) (condition becomes p l d) (condition becomes p l g)
+      → condition n p l (effect_node (effect_kind k) a f d g) ≡ pair (opposite p) (condition n p l d) (condition n p l g)
   unfolding condition effect_node effect_kind
   both_condition k e = rw e
 
   under_condition :
       (k : ℕ)
       → k ≡ 4
-      → condition becomes p l (effect_node (effect_kind k) a f d g) ≡ bind (condition becomes p l g) (λ c. guarded becomes p f c)
+      → condition n p l (effect_node (effect_kind k) a f d g) ≡ bind (condition n p l g) (λ c. guarded n p f c)
   unfolding condition effect_node effect_kind
   under_condition k e = rw e
 
@@ -127,14 +127,14 @@ module _ (frame : Frame) (formulas effects scratch : List ℕ) (source : EffectS
   module _ (t : Target) where
     node : Build ℕ
     node =
-        condition (becoming frame) (side t.negated) (atom_of t)
+        condition frame.variables (side t.negated) (atom_of t)
         (effect_node (effect_kind (row_at effects e).kind) (row_at effects e).a (tree frame formulas (row_at effects e).a)
         (effect_tree frame formulas effects (row_at effects e).a) (effect_tree frame formulas effects (row_at effects e).b))
 
     unfolds : condition_at frame formulas effects t e ≡ node
     unfolding condition_at effect_tree tree node
     unfolds =
-        ap (condition (becoming frame) (side t.negated) (atom_of t))
+        ap (condition frame.variables (side t.negated) (atom_of t))
         (effect_unfolds frame.variables frame.formulas (source_rows frame formulas) (effect_rows frame effects)
         source.down e within
         ∙ rw row_held)
@@ -144,7 +144,7 @@ module _ (frame : Frame) (formulas effects scratch : List ℕ) (source : EffectS
         → ((row_at effects e).kind ≡ 4 → ⊥)
         → condition_at frame formulas effects t e ≡ give (atom_row t (row_at effects e))
     unfolding node atom_row
-    of_atom i j = unfolds ∙ atom_condition (becoming frame) _ _ _ _ _ _ (row_at effects e).kind i j
+    of_atom i j = unfolds ∙ atom_condition frame.variables _ _ _ _ _ _ (row_at effects e).kind i j
 
     pub of_both :
         (row_at effects e).kind ≡ 3
@@ -152,12 +152,12 @@ module _ (frame : Frame) (formulas effects scratch : List ℕ) (source : EffectS
         ≡ pair (opposite (side t.negated)) (condition_at frame formulas effects t (row_at effects e).a)
         (condition_at frame formulas effects t (row_at effects e).b)
     unfolding node condition_at
-    of_both k = unfolds ∙ both_condition (becoming frame) _ _ _ _ _ _ (row_at effects e).kind k
+    of_both k = unfolds ∙ both_condition frame.variables _ _ _ _ _ _ (row_at effects e).kind k
 
     pub of_under :
         (row_at effects e).kind ≡ 4
         → condition_at frame formulas effects t e
         ≡ bind (condition_at frame formulas effects t (row_at effects e).b)
-        (λ c. guarded (becoming frame) (side t.negated) (tree frame formulas (row_at effects e).a) c)
+        (λ c. guarded frame.variables (side t.negated) (tree frame formulas (row_at effects e).a) c)
     unfolding node condition_at
-    of_under k = unfolds ∙ under_condition (becoming frame) _ _ _ _ _ _ (row_at effects e).kind k
+    of_under k = unfolds ∙ under_condition frame.variables _ _ _ _ _ _ (row_at effects e).kind k

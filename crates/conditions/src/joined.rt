@@ -9,7 +9,7 @@ use crate::Target;
 use formula_builder::{EFFECTS, NO_ROOM, ROWS, join};
 
 // What is kept of the join of rows l and r for row e: its row plus 1, or 0.
-fn last_join(notes: &[u16], frame: &[usize; 6], t: Target, e: usize, l: u16, r: u16) -> u16
+fn last_join(notes: &[u16], frame: &[usize; 5], t: Target, e: usize, l: u16, r: u16) -> u16
     requires { Looks (framed frame.now) notes.now e }
     ensures { Rejoins (framed frame.now) notes.now t e l r result }
 {
@@ -28,7 +28,7 @@ fn last_join(notes: &[u16], frame: &[usize; 6], t: Target, e: usize, l: u16, r: 
 
 // Keeps x, the join of rows l and r for row e, if the target is plain and there was room. A join that folded, to l or to r, is not kept: it is
 // made as quickly as it is found, and would take the place of one that was searched for.
-fn keep_join(notes: &mut [u16], frame: &[usize; 6], t: Target, e: usize, l: u16, r: u16, x: u16)
+fn keep_join(notes: &mut [u16], frame: &[usize; 5], t: Target, e: usize, l: u16, r: u16, x: u16)
     requires { Looks (framed frame.now) notes.old e × (eqb x 65535 ≡ false → x < 4096) }
     ensures { KeepsJoin (framed frame.now) notes.old notes.new t e l r x }
 {
@@ -56,7 +56,7 @@ pub fn joined(
     e: usize,
     t: Target,
     or: bool,
-    frame: &[usize; 6],
+    frame: &[usize; 5],
     rows: &mut usize,
     l: u16,
     r: u16,

@@ -22,7 +22,7 @@ pub fn width_of(variables: usize) -> usize
 }
 
 // The word of the notes that keeps the condition of target t and effect e; 0, if none does. They keep as far as they reach.
-fn place(notes: &[u16], frame: &[usize; 6], t: Target, e: usize) -> usize
+fn place(notes: &[u16], frame: &[usize; 5], t: Target, e: usize) -> usize
     requires { Looks (framed frame.now) notes.now e × (t.variable < (framed frame.now).variables) }
     ensures { 0 < result → KeptAt (framed frame.now) notes.now t e result }
 {
@@ -45,7 +45,7 @@ fn place(notes: &[u16], frame: &[usize; 6], t: Target, e: usize) -> usize
 }
 
 // What the notes keep of target t and effect e: its row plus 1, or 0.
-pub fn recall_noted(notes: &[u16], frame: &[usize; 6], t: Target, e: usize) -> u16
+pub fn recall_noted(notes: &[u16], frame: &[usize; 5], t: Target, e: usize) -> u16
     requires { Looks (framed frame.now) notes.now e × (t.variable < (framed frame.now).variables) }
     ensures { RecallsNoted (framed frame.now) notes.now t e result }
 {
@@ -57,7 +57,7 @@ pub fn recall_noted(notes: &[u16], frame: &[usize; 6], t: Target, e: usize) -> u
 }
 
 // Keeps the row of the condition of target t and effect e, if the notes have a word for it.
-pub fn keep_noted(notes: &mut [u16], frame: &[usize; 6], t: Target, e: usize, row: u16)
+pub fn keep_noted(notes: &mut [u16], frame: &[usize; 5], t: Target, e: usize, row: u16)
     requires { Looks (framed frame.now) notes.old e × (t.variable < (framed frame.now).variables) × (row < 4096) }
     ensures { KeepsNoted (framed frame.now) notes.old notes.new t e row }
 {

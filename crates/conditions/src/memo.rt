@@ -16,7 +16,7 @@ fn tag_of(t: Target) -> u16
 }
 
 // What is known of target t and effect e: its row plus 1, or 0.
-pub fn recall(notes: &[u16], scratch: &[u16], frame: &[usize; 6], t: Target, e: usize) -> u16
+pub fn recall(notes: &[u16], scratch: &[u16], frame: &[usize; 5], t: Target, e: usize) -> u16
     requires { AsksKept (framed frame.now) notes.now scratch.now t e }
     ensures { Recalls (framed frame.now) notes.now scratch.now t e result }
 {
@@ -31,7 +31,7 @@ pub fn recall(notes: &[u16], scratch: &[u16], frame: &[usize; 6], t: Target, e: 
 pub fn keep(
     notes: &mut [u16],
     scratch: &mut [u16],
-    frame: &[usize; 6],
+    frame: &[usize; 5],
     t: Target,
     e: usize,
     row: u16,

@@ -16,8 +16,7 @@ use Rattle.normal_form.proofs.Adds.{AddsNothing, nothing_first, nothing_next, no
 use Rattle.formula_builder.specs.declared.Frame.{Frame}
 use Rattle.formula_builder.specs.declared.Size.{Size}
 use Rattle.formula_builder.specs.Inner.Held.{Store, held, side}
-use Rattle.images.specs.Inner.Images.{tree, becoming}
-use Rattle.images.proofs.Memos.{steady_becoming}
+use Rattle.images.specs.Inner.Images.{tree}
 use Rattle.conditions.specs.declared.Target.{Target}
 use Rattle.conditions.specs.Inner.Conditions.{atom_by, effect_tree, condition_at}
 use Rattle.conditions.proofs.Rows.{of_both, of_under}
@@ -52,7 +51,7 @@ module _ {frame : Frame} {effects : List ℕ} (rows : Rows frame effects) (formu
       let under = of_under frame formulas effects (memo frame) (source frame effects rows) i h t k in
       rw (← q)
       (nothing_first (steady_condition_at frame formulas effects t (row_at effects i).b)
-      (λ c. steady_guarded (becoming frame) (steady_becoming frame) (side t.negated) (tree frame formulas (row_at effects i).a) c) (rw under at z))
+      (λ c. steady_guarded frame.variables (side t.negated) (tree frame formulas (row_at effects i).a) c) (rw under at z))
 
   pub covered_below :
       {top e : ℕ} → Below effects top e → Covered frame formulas effects s top → Covered frame formulas effects s e
@@ -80,7 +79,7 @@ module _ {frame : Frame} {effects : List ℕ} (rows : Rows frame effects) (formu
 pub covered_changes :
     (frame : Frame) (formulas effects : List ℕ) (s : St) (e : ℕ)
     → e < frame.effects
-    → AddsNothing (each frame.variables (changes_of (becoming frame) (effect_tree frame formulas effects e))) s
+    → AddsNothing (each frame.variables (changes_of frame.variables (effect_tree frame formulas effects e))) s
     → Covered frame formulas effects s e
 unfolding condition_at
 covered_changes frame formulas effects s e h q =
@@ -89,9 +88,9 @@ covered_changes frame formulas effects s e h q =
     go :
         (clear : Bool) (v : ℕ)
         → v < frame.variables
-        → AddsNothing (condition (becoming frame) plain (atom_by clear v) (effect_tree frame formulas effects e)) s
-    go false v g = nothing_sets (becoming frame) (steady_becoming frame) frame.variables (effect_tree frame formulas effects e) q g
-    go true v g = nothing_clears (becoming frame) (steady_becoming frame) frame.variables (effect_tree frame formulas effects e) q g
+        → AddsNothing (condition frame.variables plain (atom_by clear v) (effect_tree frame formulas effects e)) s
+    go false v g = nothing_sets frame.variables (effect_tree frame formulas effects e) q g
+    go true v g = nothing_clears frame.variables (effect_tree frame formulas effects e) q g
 
 -- The effects of the first n operators are covered once these were built, each behind a step of its own: its precondition.
 pub covered_built :
@@ -102,7 +101,7 @@ pub covered_built :
     (each n
     (λ k.
     bind (m k)
-    (λ p. each frame.variables (changes_of (becoming frame) (effect_tree frame formulas effects (operator_at operators k).effect))))
+    (λ p. each frame.variables (changes_of frame.variables (effect_tree frame formulas effects (operator_at operators k).effect))))
     s).st
     u
     → AllCovered frame formulas effects operators n u
@@ -116,9 +115,9 @@ covered_built frame formulas effects operators n m s u steady roots g =
   where
     all :
         (k : ℕ)
-        → Steady (each frame.variables (changes_of (becoming frame) (effect_tree frame formulas effects (operator_at operators k).effect)))
+        → Steady (each frame.variables (changes_of frame.variables (effect_tree frame formulas effects (operator_at operators k).effect)))
     all k =
-        steady_each frame.variables (steady_changes (becoming frame) (steady_becoming frame) (effect_tree frame formulas effects (operator_at operators k).effect))
+        steady_each frame.variables (steady_changes frame.variables (effect_tree frame formulas effects (operator_at operators k).effect))
 
 -- The rows that a batch lists as it begins may be filled.
 pub batch_fills :

@@ -1,4 +1,4 @@
-// The entries for a planner written in C: reading, compiling, running, the cheapest plan and translating through numbers and byte slices.
+// The entries for a planner written in C: reading, compiling, running and the cheapest plan through numbers and byte slices.
 #![tactic(auto)]
 
 ghost use Rattle.std.specs.Prelude.{length};
@@ -9,7 +9,6 @@ ghost use Rattle.compile_entry.specs.Entry.{compile_entry};
 ghost use Rattle.run_entry.specs.Entry.{run_entry};
 ghost use Rattle.run_entry.specs.Entry.{RunEntryGives};
 ghost use Rattle.plan_entry.specs.Entry.{plan_entry, PlanEntryGives};
-ghost use Rattle.translate_entry.specs.Entry.{translate_entry};
 
 // Reads a task file: 0 and its tables, or the number and all 0. One pass over the file and one over its tables.
 #[unsafe(no_mangle)]
@@ -44,13 +43,4 @@ pub extern "C" fn pnf_plan(file: &[u8], out: &mut [u8], res: &mut [u8]) -> u32
     ensures { PlanEntryGives (plan_entry file.now (length out.old) (length res.old)) result out.new res.new }
 {
     plan_entry::plan(file, out, res)
-}
-
-// Translates the tables of a task with named values, words of 16 bits: 0, the translated task's file and its length, or the number and all 0. One
-// pass over the words, translating, one pass over the translated task.
-#[unsafe(no_mangle)]
-pub extern "C" fn pnf_translate(tables: &[u8], out: &mut [u8], res: &mut [u8]) -> u32
-    ensures { CompileGives (translate_entry tables.now (length out.old) (length res.old)) result out.new res.new }
-{
-    translate_entry::translate(tables, out, res)
 }

@@ -57,28 +57,26 @@ module _ (l : Lent) (kept : refusal l ≡ 0) where
           in
           rw (kept, x, enough, y, own_scratch, limits_alone source, limits)
 
--- the number in the answer is the refusal's, 0 with a task alone
-module _ (t : Task) (room : Room) where
-  pub number_by : (n : ℕ) → n ≡ refused_compile (outcome_by n t room).answer
-  number_by zero = unfold outcome_by task_given in refl
-  number_by (suc n) = unfold outcome_by nothing_given in refl
-
-  pub never_zero : (n : ℕ) → (outcome_by n t room).answer ≡ not_compiled 0 → ⊥
-  never_zero zero e =
-      let g : compiled_head (head_of t) ≡ not_compiled 0 = unfold outcome_by task_given in e in
-      let z : ◌≡◌ {A = ℕ} 0 1 = cc in
-      omega arith
-  never_zero (suc n) e =
-      let g : not_compiled (suc n) ≡ not_compiled 0 = unfold outcome_by nothing_given in e in
-      let z : suc n ≡ 0 = cc in
-      omega (arith, z)
-
--- compiling's
+-- the number in compiling's answer is the refusal's
 module _ (l : Lent) (room : Room) where
   pub number_told : compile_refusal l room ≡ refused_compile (compiling l room).answer
   unfolding compiling
-  number_told = number_by (finished (task_of l)) room (compile_refusal l room)
+  number_told = go (compile_refusal l room)
+    where
+      go : (n : ℕ) → n ≡ refused_compile (outcome_by n (finished (task_of l)) room).answer
+      go zero = unfold outcome_by task_given in refl
+      go (suc n) = unfold outcome_by nothing_given in refl
 
   pub not_zero : (compiling l room).answer ≡ not_compiled 0 → ⊥
   unfolding compiling
-  not_zero = never_zero (finished (task_of l)) room (compile_refusal l room)
+  not_zero = go (compile_refusal l room)
+    where
+      go : (n : ℕ) → (outcome_by n (finished (task_of l)) room).answer ≡ not_compiled 0 → ⊥
+      go zero e =
+          let g : compiled_head (head_of (finished (task_of l))) ≡ not_compiled 0 = unfold outcome_by task_given in e in
+          let z : ◌≡◌ {A = ℕ} 0 1 = cc in
+          omega arith
+      go (suc n) e =
+          let g : not_compiled (suc n) ≡ not_compiled 0 = unfold outcome_by nothing_given in e in
+          let z : suc n ≡ 0 = cc in
+          omega (arith, z)

@@ -132,8 +132,8 @@ module _ (frame : Frame) (n w : ℕ) (table o : List ℕ) (ready : Ready frame (
         unfolding held variable_row row
         place-put = put.value
 
-        its_row : row_at after k ≡ variable_of (frame.variables + w)
-        its_row =
+        its-row : row_at after k ≡ variable_of (frame.variables + w)
+        its-row =
             let r = variable_of (frame.variables + w) in
             sym (getD_upto m (row_at after) k no_row put.below)
             ∙ ap (λ (l : List Row). get_or l k no_row) (sym rows-put)
@@ -163,7 +163,7 @@ module _ (frame : Frame) (n w : ℕ) (table o : List ℕ) (ready : Ready frame (
             let its : r ≡ k = omega (arith, word-own) in
             let last : place eqb v (take (w + 1) originals') ≡ w =
             ap (place eqb v) twins-now ∙ place_last v (take w o) (its_place ∙ sym long) ∙ long in
-            rw (last, its) (omega arith, row-still k put.below ∙ its_row)
+            rw (last, its) (omega arith, row-still k put.below ∙ its-row)
 
         named_other :
             (u r : ℕ)

@@ -1,11 +1,11 @@
-// A frame as six numbers, in the order of its fields. A struct is copied at each call, a reference to numbers is passed in a register: so the
+// A frame as five numbers, in the order of its fields. A struct is copied at each call, a reference to numbers is passed in a register: so the
 // two recursions take these.
 ghost use Rattle.std.specs.Prelude.{◌≡◌};
 ghost use Rattle.formula_builder.specs.Inner.Held.{framed};
 
 use crate::Frame;
 
-// The places of the six numbers.
+// The places of the five numbers.
 pub const VARIABLES: usize = 0;
 
 pub const FORMULAS: usize = 1;
@@ -16,10 +16,8 @@ pub const ROWS: usize = 3;
 
 pub const TWINS: usize = 4;
 
-pub const COPIED: usize = 5;
-
-// The frame of six numbers. Constant cost.
-pub fn frame_of(words: &[usize; 6]) -> Frame
+// The frame of five numbers. Constant cost.
+pub fn frame_of(words: &[usize; 5]) -> Frame
     ensures { result ≡ framed words.now }
 {
     Frame {
@@ -28,12 +26,11 @@ pub fn frame_of(words: &[usize; 6]) -> Frame
         effects: words[EFFECTS],
         rows: words[ROWS],
         twins: words[TWINS],
-        copied: words[COPIED],
     }
 }
 
-// The six numbers of a frame. Constant cost.
-pub fn words_of(frame: Frame) -> [usize; 6]
+// The five numbers of a frame. Constant cost.
+pub fn words_of(frame: Frame) -> [usize; 5]
     ensures { framed result ≡ frame }
 {
     [
@@ -42,6 +39,5 @@ pub fn words_of(frame: Frame) -> [usize; 6]
         frame.effects,
         frame.rows,
         frame.twins,
-        frame.copied,
     ]
 }

@@ -9,7 +9,7 @@ mod rows;
 mod sizes;
 mod twins;
 
-pub use frames::{COPIED, EFFECTS, FORMULAS, ROWS, TWINS, VARIABLES, frame_of, words_of};
+pub use frames::{EFFECTS, FORMULAS, ROWS, TWINS, VARIABLES, frame_of, words_of};
 pub use joins::{falsity, join, truth};
 pub use rows::{first_rows, read_row, row};
 pub use sizes::step_of;
@@ -26,8 +26,7 @@ pub struct Words {
     pub b: u16,
 }
 
-// The source's counts of variables, formulas and effects; how many rows and twins the task that is built has room for; and what stands in it for a
-// formula over an effect: 0, its image, or 1, the formula itself, which the memo of images then has for every row.
+// The source's counts of variables, formulas and effects, and how many rows and twins the compiled task has room for.
 #[derive(Clone, Copy)]
 pub struct Frame {
     pub variables: usize,
@@ -35,7 +34,6 @@ pub struct Frame {
     pub effects: usize,
     pub rows: usize,
     pub twins: usize,
-    pub copied: usize,
 }
 
 // How many rows and twins stand.

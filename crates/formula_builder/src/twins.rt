@@ -14,7 +14,7 @@ pub fn twin_row(
     twins: &mut usize,
     table: &mut [u16],
     originals: &mut [u16],
-    frame: &[usize; 6],
+    frame: &[usize; 5],
     v: u16,
 ) -> u16
     requires { Ready (framed frame.now) (sized rows.old twins.old) (store table.old originals.old) × (v < (framed frame.now).variables) }

@@ -3,40 +3,27 @@ use Prim.Native.Nat.{ℕ, ◌+◌, ◌-◌, ◌*◌, ◌≤◌, ◌<◌}
 use native.Mathlib.Omega.{arith}
 use native.Mathlib.Decide.{ℕ_discrete}
 use mathlib.Core.Path.{◌≡◌, refl, sym, ap, ◌∙◌}
-use mathlib.Core.Bool.{Bool, true, false, cond, true≢false}
+use mathlib.Core.Bool.{Bool, true, false, true≢false}
 use mathlib.Core.List.{List}
 use lib.ListN.{length, get_or, set}
-use lib.Dec.{eqb}
 use borrow.Author.Tests.{ne_eqb}
 use lib.Seq.{get_or-set_same, get_or-set_other}
 use Rattle.task.specs.Table.{row_at}
-use Rattle.task.specs.Semantics.{Formula}
 use Rattle.task.proofs.Bounded.{length_upto}
 use Rattle.normal_form.specs.Builder.{St, Got, Build, bind, join, pair, Polarity, plain, negated}
 use Rattle.normal_form.specs.Growth.{Grows, Steady}
 use Rattle.normal_form.proofs.Growth.{grows_refl, steady_bind, steady_join, steady_pair}
-use Rattle.normal_form.specs.Image.{image}
-use Rattle.normal_form.specs.Copy.{copy, itself}
-use Rattle.normal_form.proofs.Steady.{steady_image, steady_itself}
+use Rattle.normal_form.proofs.Steady.{steady_image}
 use Rattle.formula_builder.specs.declared.Frame.{Frame}
 use Rattle.formula_builder.specs.declared.Size.{Size}
 use Rattle.formula_builder.specs.declared.Step.{Step}
 use Rattle.formula_builder.specs.Inner.Held.{Store, held, size_of, side, stepped, Done, Builds}
 use Rattle.formula_builder.proofs.Steps.{builds_done, builds_as, builds_bind, builds_stop, prefix_length}
-use Rattle.images.specs.Inner.Images.{becoming, tree, image_at, pair_at, memo_place, Known, Memo, Asks, AsksBuilt, Images}
-
--- what a formula becomes is steady, whichever it is
-pub steady_becoming : (frame : Frame) (p : Polarity) (f : Formula) → Steady (becoming frame p f)
-unfolding becoming
-steady_becoming frame p f = go (eqb frame.copied 0)
-  where
-    go : (b : Bool) → Steady (cond b (image frame.variables) itself p f)
-    go true = steady_image frame.variables p f
-    go false = steady_itself p f
+use Rattle.images.specs.Inner.Images.{tree, image_at, pair_at, memo_place, Known, Memo, Asks, Images}
 
 pub steady_image_at : (frame : Frame) (formulas : List ℕ) (p : Polarity) (i : ℕ) → Steady (image_at frame formulas p i)
 unfolding image_at
-steady_image_at frame formulas p i = steady_becoming frame p (tree frame formulas i)
+steady_image_at frame formulas p i = steady_image frame.variables p (tree frame formulas i)
 
 pub steady_pair_at :
     (frame : Frame) (formulas : List ℕ) (i : ℕ) (left right or : Bool) → Steady (pair_at frame formulas i left right or)
@@ -62,10 +49,7 @@ pub memo_grows :
     → Memo frame formulas scratch s
     → Memo frame formulas scratch t
 memo_grows {frame} {formulas} g m =
-    record {
-      known = λ p i r h e. known_grows (steady_image_at frame formulas p i) g (m.known p i r h e);
-      full = m.full;
-    }
+    record { known = λ p i r h e. known_grows (steady_image_at frame formulas p i) g (m.known p i r h e) }
 
 -- a step that is done grows the state that the tables hold
 pub done_grows :
@@ -116,28 +100,8 @@ memo_noted :
     → Known (image_at frame formulas p i) s r
     → Memo frame formulas scratch s
     → Memo frame formulas (set scratch (memo_place frame p i) (r + 1)) s
-memo_noted frame formulas scratch s p i r h room k m =
-    record {
-      known = known;
-      full = λ c q j g e. full c q j g (ℕ_discrete (memo_place frame q j) (memo_place frame p i)) e;
-    }
+memo_noted frame formulas scratch s p i r h room k m = record { known = known }
   where
-    there : get_or (set scratch (memo_place frame p i) (r + 1)) (memo_place frame p i) 0 ≡ r + 1
-    there = get_or-set_same scratch (memo_place frame p i) (r + 1) 0 (omega (arith, place_within frame p i h))
-
-    full :
-        (frame.copied ≡ 0 → ⊥)
-        → (q : Polarity) (j : ℕ)
-        → j < frame.formulas
-        → Dec (memo_place frame q j ≡ memo_place frame p i)
-        → get_or (set scratch (memo_place frame p i) (r + 1)) (memo_place frame q j) 0 ≡ 0
-        → ⊥
-    full c q j g (yes same) e =
-        let z : get_or (set scratch (memo_place frame p i) (r + 1)) (memo_place frame p i) 0 ≡ 0 = rw same at e in
-        omega (arith, z, there)
-    full c q j g (no other) e =
-        m.full c q j g (sym (get_or-set_other scratch (memo_place frame p i) (memo_place frame q j) (r + 1) 0 other) ∙ e)
-
     known :
         (q : Polarity) (j x : ℕ)
         → j < frame.formulas
@@ -148,40 +112,13 @@ memo_noted frame formulas scratch s p i r h room k m =
         go : Dec (memo_place frame q j ≡ memo_place frame p i) → Known (image_at frame formulas q j) s x
         go (yes same) =
             let now : get_or (set scratch (memo_place frame p i) (r + 1)) (memo_place frame q j) 0 ≡ r + 1 =
-            rw same there in
+            rw same
+            (get_or-set_same scratch (memo_place frame p i) (r + 1) 0 (omega (arith, place_within frame p i h))) in
             let d : x ≡ r = omega (arith, now, e) in
             rw d (place_once frame (λ q j. Known (image_at frame formulas q j) s r) p q i j h g same k)
         go (no other) =
             m.known q j x g
             (sym (get_or-set_other scratch (memo_place frame p i) (memo_place frame q j) (r + 1) 0 other) ∙ e)
-
--- nothing is known, where formulas become their images
-pub memo_blank :
-    (frame : Frame) (formulas scratch : List ℕ) (s : St)
-    → frame.copied ≡ 0
-    → ((j : ℕ) → get_or scratch j 0 ≡ 0)
-    → Memo frame formulas scratch s
-memo_blank frame formulas scratch s imaged blank =
-    record {
-      known = λ p i r h e. absurd (omega (arith, e, blank (memo_place frame p i)));
-      full = λ c. absurd (c imaged);
-    }
-
--- All formulas are known as they stand (02, K3): each is given again as row `at i` and adds nothing, and both words of formula i are that row plus 1.
-pub memo_copied :
-    (frame : Frame) (formulas scratch : List ℕ) (s : St) (at : ℕ → ℕ)
-    → (frame.copied ≡ 0 → ⊥)
-    → ((i : ℕ) → i < frame.formulas → Known (copy (tree frame formulas i)) s (at i))
-    → ((p : Polarity) (i : ℕ) → i < frame.formulas → get_or scratch (memo_place frame p i) 0 ≡ at i + 1)
-    → Memo frame formulas scratch s
-unfolding image_at becoming itself
-memo_copied frame formulas scratch s at copied known words =
-    record {
-      known = λ p i r h e.
-          let same : r ≡ at i = omega (arith, e, words p i h) in
-          rw (ne_eqb frame.copied 0 copied, same) (known i h);
-      full = λ _ p i h e. omega (arith, e, words p i h);
-    }
 
 module _ {m : Build ℕ} {frame : Frame} {formulas : List ℕ} {at : Size} {before after : Store} {scratch scratch' : List ℕ} {r : Step} where
   pub images_as :
@@ -313,19 +250,6 @@ images_known {frame} {at = at} {before = before} {scratch} {i} {k} p a e some =
       memo = λ _. a.memo;
       rest = λ j g. refl;
     }
-
--- The memo does not have it: then it is to be built, and formulas become their images.
-pub asks_built :
-    {frame : Frame} {formulas : List ℕ} {at : Size} {before : Store} {scratch : List ℕ} {i k : ℕ} (p : Polarity)
-    → Asks frame formulas at before scratch i
-    → k ≡ memo_place frame p i
-    → get_or scratch k 0 ≡ 0
-    → AsksBuilt frame formulas at before scratch i
-asks_built {frame} {scratch = scratch} {i = i} p a e none = record { asks = a; imaged = go (ℕ_discrete frame.copied 0) }
-  where
-    go : Dec (frame.copied ≡ 0) → frame.copied ≡ 0
-    go (yes z) = z
-    go (no c) = absurd (a.memo.full c p i a.formula (ap (λ x. get_or scratch x 0) (sym e) ∙ none))
 
 -- Formula i was built and is noted.
 pub images_noted :

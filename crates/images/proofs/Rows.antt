@@ -7,7 +7,6 @@ use mathlib.Core.Bool.{Bool, true, false, not, beq}
 use mathlib.Core.List.{List, [], ◌∷◌}
 use lib.ListN.{length, get_or, get_or-eq_default}
 use lib.Dec.{eqb}
-use borrow.Author.Tests.{eq-eqb, ne_eqb}
 use Rattle.task.specs.Table.{row_at, FormulaKind, false_kind, true_kind, variable_kind, not_kind, and_kind, or_kind, implies_kind, equivalent_kind, unknown_formula, formula_kind}
 use Rattle.task.specs.Rules.{no_row, FormulaRule}
 use Rattle.task.specs.Semantics.{Formula}
@@ -17,12 +16,11 @@ use Rattle.task.proofs.Trees.{formula_unfolds}
 use Rattle.task.specs.Inner.Rows.{FormulaKept}
 use Rattle.normal_form.specs.Builder.{Build, pair, Polarity, plain, negated}
 use Rattle.normal_form.specs.Image.{image}
-use Rattle.normal_form.specs.Copy.{itself}
 use Rattle.formula_builder.specs.declared.Words.{Words}
 use Rattle.formula_builder.specs.declared.Frame.{Frame}
 use Rattle.formula_builder.specs.declared.Size.{Size}
 use Rattle.formula_builder.specs.Inner.Held.{Store, row_of, side}
-use Rattle.images.specs.Inner.Images.{source_rows, tree, becoming, image_at, pair_at, equivalent_at, leaf_built, Asks, AsksBuilt}
+use Rattle.images.specs.Inner.Images.{source_rows, tree, image_at, pair_at, equivalent_at, leaf_built, Asks}
 
 known_kind : (v i k a b : ℕ) → FormulaRule v i (formula_kind k) a b → k < 8
 unfolding formula_kind
@@ -111,16 +109,6 @@ pub pair_words :
 unfolding pair_at
 pair_words frame formulas i w e left right or = rw (← e)
 
--- where formulas become their images
-pub becoming_image : (frame : Frame) → frame.copied ≡ 0 → becoming frame ≡ image frame.variables
-unfolding becoming
-becoming_image frame z = rw (eq-eqb frame.copied 0 z)
-
--- and where they are taken as they stand (02, K3)
-pub becoming_itself : (frame : Frame) → (frame.copied ≡ 0 → ⊥) → becoming frame ≡ itself
-unfolding becoming
-becoming_itself frame c = rw (ne_eqb frame.copied 0 c)
-
 -- Row i of the source, with the words w.
 module _ {frame : Frame} {formulas : List ℕ} {at : Size} {before : Store} {scratch : List ℕ} {i : ℕ} (x : Asks frame formulas at before scratch i)
     (w : Words) (e : row_of w ≡ row_at formulas i) where
@@ -156,43 +144,24 @@ module _ {frame : Frame} {formulas : List ℕ} {at : Size} {before : Store} {scr
       let r : FormulaRule frame.variables i (formula_kind 2) w.a w.b = rw k at rule_held in
       (r.0, r.1)
 
--- It is built.
-module _ {frame : Frame} {formulas : List ℕ} {at : Size} {before : Store} {scratch : List ℕ} {i : ℕ} (x : AsksBuilt frame formulas at before scratch i)
-    (w : Words) (e : row_of w ≡ row_at formulas i) where
   node : Polarity → Build ℕ
   node p =
       image frame.variables p
       (formula_node (formula_kind w.kind) w.a (tree frame formulas w.a) (tree frame formulas w.b))
 
-  imaged : (p : Polarity) (j : ℕ) → image_at frame formulas p j ≡ image frame.variables p (tree frame formulas j)
-  unfolding image_at
-  imaged p j = rw (becoming_image frame x.imaged)
-
   unfolds : (p : Polarity) → image_at frame formulas p i ≡ node p
-  unfolding tree node
+  unfolding image_at tree node
   unfolds p =
-      imaged p i
-      ∙ ap (image frame.variables p)
-      (formula_unfolds frame.variables (source_rows frame formulas) x.asks.source.down i (within x.asks w e)
-      ∙ rw (row_held x.asks w e))
+      ap (image frame.variables p)
+      (formula_unfolds frame.variables (source_rows frame formulas) x.source.down i within ∙ rw row_held)
 
   pub of_leaf : (b : Bool) → w.kind < 3 → image_at frame formulas (side b) i ≡ leaf_built frame.variables (side b) (row_of w)
   unfolding node
   of_leaf b l = unfolds (side b) ∙ leaf_image frame.variables _ _ _ (side b) w.kind w.b l
 
   pub of_not : (b : Bool) → w.kind ≡ 3 → image_at frame formulas (side b) i ≡ image_at frame formulas (side (not b)) w.a
-  unfolding node
-  of_not b k = unfolds (side b) ∙ negation_image frame.variables _ _ _ b w.kind k ∙ sym (imaged (side (not b)) w.a)
-
-  -- the operands' images, from what they become
-  operand_images :
-      (left right or : Bool)
-      → pair (side or) (image frame.variables (side left) (tree frame formulas w.a))
-      (image frame.variables (side right) (tree frame formulas w.b))
-      ≡ pair_at frame formulas i left right or
-  operand_images left right or =
-      ap₂ (pair (side or)) (sym (imaged (side left) w.a)) (sym (imaged (side right) w.b))
-      ∙ sym (pair_words frame formulas i w e left right or)
+  unfolding node image_at
+  of_not b k = unfolds (side b) ∙ negation_image frame.variables _ _ _ b w.kind k
 
   pub of_pair :
       (b : Bool)
@@ -200,15 +169,15 @@ module _ {frame : Frame} {formulas : List ℕ} {at : Size} {before : Store} {scr
       → (w.kind ≡ 7 → ⊥)
       → image_at frame formulas (side b) i
       ≡ pair_at frame formulas i (not (beq (eqb w.kind 6) b)) b (beq (eqb w.kind 4) b)
-  unfolding node
+  unfolding node image_at
   of_pair b l m =
       unfolds (side b)
-      ∙ pair_image frame.variables _ _ _ b w.kind l (omega (arith, known x.asks w e))
-      ∙ operand_images (not (beq (eqb w.kind 6) b)) b (beq (eqb w.kind 4) b)
+      ∙ pair_image frame.variables _ _ _ b w.kind l (omega (arith, known))
+      ∙ sym (pair_words frame formulas i w e (not (beq (eqb w.kind 6) b)) b (beq (eqb w.kind 4) b))
 
   pub of_equivalent : (b : Bool) → w.kind ≡ 7 → image_at frame formulas (side b) i ≡ equivalent_at frame formulas i b
-  unfolding node equivalent_at
+  unfolding node image_at equivalent_at
   of_equivalent b k =
       unfolds (side b)
       ∙ equivalence_image frame.variables _ _ _ b w.kind k
-      ∙ ap₂ (pair negated) (operand_images false b false) (operand_images true (not b) false)
+      ∙ ap₂ (pair negated) (sym (pair_words frame formulas i w e false b false)) (sym (pair_words frame formulas i w e true (not b) false))

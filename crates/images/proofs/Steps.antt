@@ -13,7 +13,7 @@ use Rattle.formula_builder.specs.declared.Size.{Size}
 use Rattle.formula_builder.specs.declared.Step.{Step}
 use Rattle.formula_builder.specs.Inner.Held.{Store, row_of, size_of, side, JoinReady, Builds}
 use Rattle.formula_builder.proofs.Steps.{builds_as}
-use Rattle.images.specs.Inner.Images.{image_at, pair_at, equivalent_at, leaf_built, Asks, AsksBuilt, AsksPair, LeafReady, Images}
+use Rattle.images.specs.Inner.Images.{image_at, pair_at, equivalent_at, leaf_built, Asks, AsksPair, LeafReady, Images}
 use Rattle.images.proofs.Rows.{operands, negated_operand, variable_words, of_leaf, pair_words}
 use Rattle.images.proofs.Memos.{steady_image_at, steady_pair_at, asks_next, images_leaf, Joins}
 
@@ -30,7 +30,7 @@ join_asks x e y g =
     let f = y.done g in
     record { rows = f.ready.rows; two = f.ready.two; left = omega (arith, d.below, f.grew); right = f.below }
 
--- a frame that is the same, as six numbers
+-- a frame that is the same, as five numbers
 pub asks_framed :
     {f g : Frame} {formulas : List ℕ} {at : Size} {before : Store} {scratch : List ℕ} {i : ℕ}
     → f ≡ g
@@ -85,16 +85,13 @@ module _ {frame : Frame} {formulas : List ℕ} {at : Size} {before : Store} {scr
         variable = λ k. (variable_words a w e k).0;
       }
 
--- It is built.
-module _ {frame : Frame} {formulas : List ℕ} {at : Size} {before : Store} {scratch : List ℕ} {i : ℕ} (a : AsksBuilt frame formulas at before scratch i)
-    (w : Words) (e : row_of w ≡ row_at formulas i) where
   pub leaf_done :
       {after : Store} {r : Step} (b : Bool)
       → w.kind < 3
       → Builds (leaf_built frame.variables (side b) (row_of w)) frame at before after r
       → Images (image_at frame formulas (side b) i) frame formulas at before after scratch scratch r
   leaf_done b l x =
-      images_leaf (steady_image_at frame formulas (side b) i) a.asks.memo (builds_as (of_leaf a w e b l) x)
+      images_leaf (steady_image_at frame formulas (side b) i) a.memo (builds_as (of_leaf a w e b l) x)
 
 -- Its operands.
 module _ {frame : Frame} {formulas : List ℕ} {at : Size} {before : Store} {scratch : List ℕ} {i : ℕ}

@@ -2,7 +2,7 @@
 // takes the side as a flag. Each row is built at most once for a side.
 ghost use Rattle.normal_form.specs.Builder.{plain, negated};
 ghost use Rattle.formula_builder.specs.Inner.Held.{store, side, sized, stepped, framed};
-ghost use Rattle.images.specs.Inner.Images.{image_at, pair_at, equivalent_at, Asks, AsksBuilt, AsksPair, Images};
+ghost use Rattle.images.specs.Inner.Images.{image_at, pair_at, equivalent_at, Asks, AsksPair, Images};
 
 use crate::leaves::leaf;
 use crate::memo::word_of;
@@ -22,7 +22,7 @@ const EQUIVALENT: u16 = 7;
 pub fn image(
     formulas: &[u16],
     i: usize,
-    frame: &[usize; 6],
+    frame: &[usize; 5],
     rows: &mut usize,
     twins: &mut usize,
     table: &mut [u16],
@@ -46,7 +46,7 @@ pub fn image(
 pub fn negated_image(
     formulas: &[u16],
     i: usize,
-    frame: &[usize; 6],
+    frame: &[usize; 5],
     rows: &mut usize,
     twins: &mut usize,
     table: &mut [u16],
@@ -71,14 +71,14 @@ fn build(
     formulas: &[u16],
     i: usize,
     not: bool,
-    frame: &[usize; 6],
+    frame: &[usize; 5],
     rows: &mut usize,
     twins: &mut usize,
     table: &mut [u16],
     originals: &mut [u16],
     scratch: &mut [u16],
 ) -> u16
-    requires { AsksBuilt (framed frame.now) formulas.now (sized rows.old twins.old) (store table.old originals.old) scratch.old i }
+    requires { Asks (framed frame.now) formulas.now (sized rows.old twins.old) (store table.old originals.old) scratch.old i }
     ensures { Images (image_at (framed frame.now) formulas.now (side not) i) (framed frame.now) formulas.now (sized rows.old twins.old) (store table.old originals.old) (store table.new originals.new) scratch.old scratch.new (stepped rows.new twins.new result) }
 {
     let row = step(
@@ -98,14 +98,14 @@ fn step(
     formulas: &[u16],
     i: usize,
     not: bool,
-    frame: &[usize; 6],
+    frame: &[usize; 5],
     rows: &mut usize,
     twins: &mut usize,
     table: &mut [u16],
     originals: &mut [u16],
     scratch: &mut [u16],
 ) -> u16
-    requires { AsksBuilt (framed frame.now) formulas.now (sized rows.old twins.old) (store table.old originals.old) scratch.old i }
+    requires { Asks (framed frame.now) formulas.now (sized rows.old twins.old) (store table.old originals.old) scratch.old i }
     ensures { Images (image_at (framed frame.now) formulas.now (side not) i) (framed frame.now) formulas.now (sized rows.old twins.old) (store table.old originals.old) (store table.new originals.new) scratch.old scratch.new (stepped rows.new twins.new result) }
 {
     let w = read_row(formulas, i);
@@ -143,7 +143,7 @@ fn equivalent(
     formulas: &[u16],
     i: usize,
     not: bool,
-    frame: &[usize; 6],
+    frame: &[usize; 5],
     rows: &mut usize,
     twins: &mut usize,
     table: &mut [u16],
@@ -195,7 +195,7 @@ fn pair(
     left: bool,
     right: bool,
     or: bool,
-    frame: &[usize; 6],
+    frame: &[usize; 5],
     rows: &mut usize,
     twins: &mut usize,
     table: &mut [u16],
@@ -243,7 +243,7 @@ pub fn sided(
     formulas: &[u16],
     i: usize,
     not: bool,
-    frame: &[usize; 6],
+    frame: &[usize; 5],
     rows: &mut usize,
     twins: &mut usize,
     table: &mut [u16],

@@ -11,7 +11,7 @@ const VARIABLE: u16 = 2;
 pub fn leaf(
     w: Words,
     not: bool,
-    frame: &[usize; 6],
+    frame: &[usize; 5],
     rows: &mut usize,
     twins: &mut usize,
     table: &mut [u16],

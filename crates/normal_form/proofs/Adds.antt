@@ -7,10 +7,10 @@ use mathlib.Core.Path.{◌≡◌, sym, ap, ap₂, ◌∙◌}
 use mathlib.Core.List.{List, [], ◌∷◌, ◌++◌, append-nil}
 use lib.ListN.{length, length-append}
 use Rattle.task.specs.Table.{Row}
-use Rattle.task.specs.Semantics.{Formula, Effect, sets, clears}
+use Rattle.task.specs.Semantics.{Effect, sets, clears}
 use Rattle.normal_form.specs.Builder.{St, Got, Build, give, bind, each, pair, Polarity, plain}
 use Rattle.normal_form.specs.Growth.{Prefix, Grows, Steady}
-use Rattle.normal_form.specs.Conditions.{Becoming, condition}
+use Rattle.normal_form.specs.Conditions.{condition}
 use Rattle.normal_form.specs.Operators.{Changes, deletes_of, changes_of}
 use Rattle.normal_form.proofs.Growth.{grows_refl, grows_trans, steady_give, steady_bind, steady_join}
 use Rattle.normal_form.proofs.Steady.{steady_condition, steady_deletes, steady_changes}
@@ -85,37 +85,35 @@ nothing_each (suc n) {f} steady s {t} {v} h g = go (dec_lt v n) (λ l. nothing_e
         let here : v ≡ n = omega arith in
         rw here (nothing_again (steady n) g)
 
--- Whatever a formula becomes, if that is steady.
-module _ (becomes : Becoming) (steady : (p : Polarity) (f : Formula) → Steady (becomes p f)) where
-  -- What is built of a variable behind A.
-  steady_cleared :
-      (e : Effect) (v a : ℕ)
-      → Steady
-      (bind (condition becomes plain (clears v) e)
-      (λ d. bind (deletes_of becomes e v a d) (λ k. give {A = Changes} (record { variable = v; adds = a; deletes = k }))))
-  steady_cleared e v a =
-      steady_bind (steady_condition becomes steady plain (clears v) e)
-      (λ d. steady_bind (steady_deletes becomes steady e v a d) (λ k. steady_give _))
+-- What is built of a variable behind A.
+steady_cleared :
+    (n : ℕ) (e : Effect) (v a : ℕ)
+    → Steady
+    (bind (condition n plain (clears v) e)
+    (λ d. bind (deletes_of n e v a d) (λ k. give {A = Changes} (record { variable = v; adds = a; deletes = k }))))
+steady_cleared n e v a =
+    steady_bind (steady_condition n plain (clears v) e) (λ d. steady_bind (steady_deletes n e v a d) (λ k. steady_give _))
 
-  -- Of the changes of a variable: A and D.
-  nothing_set : (e : Effect) (v : ℕ) {s : St} → AddsNothing (changes_of becomes e v) s → AddsNothing (condition becomes plain (sets v) e) s
+-- Of the changes of a variable: A and D.
+module _ (n : ℕ) (e : Effect) (v : ℕ) {s : St} where
+  nothing_set : AddsNothing (changes_of n e v) s → AddsNothing (condition n plain (sets v) e) s
   unfolding changes_of
-  nothing_set e v q = nothing_first (steady_condition becomes steady plain (sets v) e) (steady_cleared e v) q
+  nothing_set q = nothing_first (steady_condition n plain (sets v) e) (steady_cleared n e v) q
 
-  nothing_clear : (e : Effect) (v : ℕ) {s : St} → AddsNothing (changes_of becomes e v) s → AddsNothing (condition becomes plain (clears v) e) s
+  nothing_clear : AddsNothing (changes_of n e v) s → AddsNothing (condition n plain (clears v) e) s
   unfolding changes_of
-  nothing_clear e v {s} q =
-      nothing_first (steady_condition becomes steady plain (clears v) e)
-      (λ d. steady_bind (steady_deletes becomes steady e v (condition becomes plain (sets v) e s).value d) (λ k. steady_give _))
-      (nothing_next (steady_condition becomes steady plain (sets v) e) (steady_cleared e v) q)
+  nothing_clear q =
+      nothing_first (steady_condition n plain (clears v) e)
+      (λ d. steady_bind (steady_deletes n e v (condition n plain (sets v) e s).value d) (λ k. steady_give _))
+      (nothing_next (steady_condition n plain (sets v) e) (steady_cleared n e v) q)
 
 -- Of the changes of all variables, as an operator builds them: the plain conditions of every atom.
-module _ (becomes : Becoming) (steady : (p : Polarity) (f : Formula) → Steady (becomes p f)) (n : ℕ) (e : Effect) {s : St} (q : AddsNothing (each n (changes_of becomes e)) s) {v : ℕ} (h : v < n) where
-  change : AddsNothing (changes_of becomes e v) s
-  change = nothing_each n (steady_changes becomes steady e) s h (rw q (grows_refl s))
+module _ (n : ℕ) (e : Effect) {s : St} (q : AddsNothing (each n (changes_of n e)) s) {v : ℕ} (h : v < n) where
+  change : AddsNothing (changes_of n e v) s
+  change = nothing_each n (steady_changes n e) s h (rw q (grows_refl s))
 
-  pub nothing_sets : AddsNothing (condition becomes plain (sets v) e) s
-  nothing_sets = nothing_set becomes steady e v change
+  pub nothing_sets : AddsNothing (condition n plain (sets v) e) s
+  nothing_sets = nothing_set n e v change
 
-  pub nothing_clears : AddsNothing (condition becomes plain (clears v) e) s
-  nothing_clears = nothing_clear becomes steady e v change
+  pub nothing_clears : AddsNothing (condition n plain (clears v) e) s
+  nothing_clears = nothing_clear n e v change

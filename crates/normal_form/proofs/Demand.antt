@@ -40,14 +40,14 @@ initial_correspond t rules =
     }
 
 -- The plain run, number by number.
-pub run_outside :
+run_outside :
     (t : Task) (p : Progress) (o : ℕ) (rest : List ℕ)
     → ltb o (length t.operators) ≡ false
     → run_on t p (o ∷ rest) ≡ answer t p (stopped 17)
 unfolding run_on
 run_outside t p o rest e = rw e
 
-pub run_refused :
+run_refused :
     (t : Task) (p : Progress) (o : ℕ) (rest : List ℕ)
     → ltb o (length t.operators) ≡ true
     → applicable t p.state o ≡ false
@@ -55,7 +55,7 @@ pub run_refused :
 unfolding run_on
 run_refused t p o rest e f = rw (e, f)
 
-pub run_step :
+run_step :
     (t : Task) (p : Progress) (o : ℕ) (rest : List ℕ)
     → ltb o (length t.operators) ≡ true
     → applicable t p.state o ≡ true

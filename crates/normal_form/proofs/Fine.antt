@@ -1,4 +1,4 @@
--- The invariant of a building state: rows 0 and 1 in place, rows of allowed kinds with references that go down, twins of source variables, each once.
+-- The invariant of a building state: rows 0 and 1 in place, rows positive with references that go down, twins of source variables, each once.
 use Prim.Native.Nat.{ℕ, ◌+◌, ◌<◌, ◌≤◌}
 use native.Mathlib.Nat.{not-suc-le-zero}
 use native.Mathlib.Omega.{arith}
@@ -7,7 +7,7 @@ use mathlib.Core.List.{[], ◌∷◌, ◌++◌}
 use lib.ListN.{length, get_or, length-append, get_or-append}
 use lib.Dec.{eqb}
 use borrow.Author.Tests.{eqb-false}
-use Rattle.task.specs.Table.{Row, FormulaKind, false_kind, true_kind, variable_kind, and_kind, or_kind, formula_kind}
+use Rattle.task.specs.Table.{Row, formula_kind}
 use Rattle.task.specs.Rules.{no_row}
 use Rattle.task.specs.Inner.Rows.{FormulaKept, FormulasDown}
 use Rattle.task.proofs.Down.{formulas_none, formulas_more, formulas_wider}
@@ -15,41 +15,20 @@ use Rattle.normal_form.specs.Builder.{St, including, same_row, row, twin, start}
 pub use Rattle.normal_form.specs.Positive.{PositiveKind}
 use Rattle.normal_form.proofs.Place.{one_more, Placed, found, added, placed, place_below, place_has, same_row_alike}
 
--- What the allowed kinds of rows have at least: all that images and joins build. A compiled task allows only positive kinds, a translated one all.
-pub record Joins (allowed : FormulaKind → Type 0) : Type 0 where
-  pub falsity : allowed false_kind
-  pub truth : allowed true_kind
-  pub variables : allowed variable_kind
-  pub ands : allowed and_kind
-  pub ors : allowed or_kind
-
-pub positive_joins : Joins PositiveKind
-positive_joins = record { falsity = tt; truth = tt; variables = tt; ands = tt; ors = tt }
-
-pub every_joins : {allowed : FormulaKind → Type 0} → ((k : FormulaKind) → allowed k) → Joins allowed
-every_joins every =
-    record {
-      falsity = every false_kind;
-      truth = every true_kind;
-      variables = every variable_kind;
-      ands = every and_kind;
-      ors = every or_kind;
-    }
-
--- a building state over n source variables, its rows of allowed kinds
-pub record Fine (allowed : FormulaKind → Type 0) (n : ℕ) (s : St) : Type 0 where
+-- a building state over n source variables
+pub record Fine (n : ℕ) (s : St) : Type 0 where
   pub two : 2 ≤ length s.rows
   pub row_false : get_or s.rows 0 no_row ≡ record { kind = 0; a = 0; b = 0 }
   pub row_true : get_or s.rows 1 no_row ≡ record { kind = 1; a = 0; b = 0 }
   pub down : FormulasDown (n + length s.twins) s.rows
-  pub kinds : (i : ℕ) → i < length s.rows → allowed (formula_kind (get_or s.rows i no_row).kind)
+  pub positive : (i : ℕ) → i < length s.rows → PositiveKind (formula_kind (get_or s.rows i no_row).kind)
   pub twin_below : (k : ℕ) → k < length s.twins → get_or s.twins k 0 < n
   pub twin_once :
       (j k : ℕ) → j < k → k < length s.twins → get_or s.twins j 0 ≡ get_or s.twins k 0 → ⊥
 
-pub fine_start : {allowed : FormulaKind → Type 0} → Joins allowed → (n : ℕ) → Fine allowed n start
+pub fine_start : (n : ℕ) → Fine n start
 unfolding start formula_kind
-fine_start {allowed} joins n =
+fine_start n =
     record {
       two = omega arith;
       row_false = refl;
@@ -58,44 +37,44 @@ fine_start {allowed} joins n =
           formulas_more (n + 0) (record { kind = 0; a = 0; b = 0 } ∷ []) (record { kind = 1; a = 0; b = 0 })
           (formulas_more (n + 0) [] (record { kind = 0; a = 0; b = 0 }) (formulas_none (n + 0)) (refl, refl))
           (refl, refl);
-      kinds =
-          one_more (λ i q. allowed (formula_kind q.kind)) no_row (record { kind = 0; a = 0; b = 0 } ∷ [])
+      positive =
+          one_more (λ i q. PositiveKind (formula_kind q.kind)) no_row (record { kind = 0; a = 0; b = 0 } ∷ [])
           (record { kind = 1; a = 0; b = 0 })
-          (one_more (λ i q. allowed (formula_kind q.kind)) no_row [] (record { kind = 0; a = 0; b = 0 })
-          (λ i h. absurd (not-suc-le-zero h)) joins.falsity)
-          joins.truth;
+          (one_more (λ i q. PositiveKind (formula_kind q.kind)) no_row [] (record { kind = 0; a = 0; b = 0 })
+          (λ i h. absurd (not-suc-le-zero h)) tt)
+          tt;
       twin_below = λ k h. absurd (not-suc-le-zero h);
       twin_once = λ j k l h. absurd (not-suc-le-zero h);
     }
 
 -- one more row, that keeps the rule of the place behind the last
 pub fine_more :
-    {allowed : FormulaKind → Type 0} (n : ℕ) (s : St) (r : Row)
-    → Fine allowed n s
+    (n : ℕ) (s : St) (r : Row)
+    → Fine n s
     → FormulaKept (n + length s.twins) (length s.rows) r
-    → allowed (formula_kind r.kind)
-    → Fine allowed n (record { rows = s.rows ++ (r ∷ []); twins = s.twins })
-fine_more {allowed} n s r f rule p =
+    → PositiveKind (formula_kind r.kind)
+    → Fine n (record { rows = s.rows ++ (r ∷ []); twins = s.twins })
+fine_more n s r f rule p =
     record {
       two = omega (arith, length-append s.rows (r ∷ []), f.two);
       row_false = get_or-append s.rows (r ∷ []) no_row 0 (omega (arith, f.two)) ∙ f.row_false;
       row_true = get_or-append s.rows (r ∷ []) no_row 1 (omega (arith, f.two)) ∙ f.row_true;
       down = formulas_more (n + length s.twins) s.rows r f.down rule;
-      kinds = one_more (λ i q. allowed (formula_kind q.kind)) no_row s.rows r f.kinds p;
+      positive = one_more (λ i q. PositiveKind (formula_kind q.kind)) no_row s.rows r f.positive p;
       twin_below = f.twin_below;
       twin_once = f.twin_once;
     }
 
 pub fine_row :
-    {allowed : FormulaKind → Type 0} (n : ℕ) (s : St) (r : Row)
-    → Fine allowed n s
+    (n : ℕ) (s : St) (r : Row)
+    → Fine n s
     → FormulaKept (n + length s.twins) (length s.rows) r
-    → allowed (formula_kind r.kind)
-    → Fine allowed n (row r s).st
+    → PositiveKind (formula_kind r.kind)
+    → Fine n (row r s).st
 unfolding row
-fine_row {allowed} n s r f rule p = go (placed same_row r s.rows)
+fine_row n s r f rule p = go (placed same_row r s.rows)
   where
-    go : Placed same_row r s.rows → Fine allowed n (record { rows = including same_row r s.rows; twins = s.twins })
+    go : Placed same_row r s.rows → Fine n (record { rows = including same_row r s.rows; twins = s.twins })
     go (found h k) = rw k f
     go (added h k e) = rw k (fine_more n s r f rule p)
 
@@ -109,11 +88,11 @@ row_has r s = place_has same_row r (λ y. same_row_alike y r) no_row s.rows
 
 -- one more twin, of a source variable that has none
 pub fine_more_twins :
-    {allowed : FormulaKind → Type 0} (n : ℕ) (s : St) (v : ℕ)
-    → Fine allowed n s
+    (n : ℕ) (s : St) (v : ℕ)
+    → Fine n s
     → v < n
     → ((j : ℕ) → j < length s.twins → get_or s.twins j 0 ≡ v → ⊥)
-    → Fine allowed n (record { rows = s.rows; twins = s.twins ++ (v ∷ []) })
+    → Fine n (record { rows = s.rows; twins = s.twins ++ (v ∷ []) })
 fine_more_twins n s v f h new =
     record {
       two = f.two;
@@ -122,7 +101,7 @@ fine_more_twins n s v f h new =
       down =
           formulas_wider (n + length (s.twins ++ (v ∷ []))) (omega (arith, length-append s.twins (v ∷ [])))
           f.down;
-      kinds = f.kinds;
+      positive = f.positive;
       twin_below = one_more (λ k w. w < n) 0 s.twins v f.twin_below h;
       twin_once = λ j k l b.
           one_more (λ k w. j < k → get_or (s.twins ++ (v ∷ [])) j 0 ≡ w → ⊥) 0 s.twins v
@@ -130,11 +109,10 @@ fine_more_twins n s v f h new =
           (λ m e. new j m (sym (get_or-append s.twins (v ∷ []) 0 j (omega arith)) ∙ e)) k b l;
     }
 
-pub fine_twin :
-    {allowed : FormulaKind → Type 0} (n : ℕ) (s : St) (v : ℕ) → Fine allowed n s → v < n → Fine allowed n (twin v s).st
+pub fine_twin : (n : ℕ) (s : St) (v : ℕ) → Fine n s → v < n → Fine n (twin v s).st
 unfolding twin
-fine_twin {allowed} n s v f h = go (placed eqb v s.twins)
+fine_twin n s v f h = go (placed eqb v s.twins)
   where
-    go : Placed eqb v s.twins → Fine allowed n (record { rows = s.rows; twins = including eqb v s.twins })
+    go : Placed eqb v s.twins → Fine n (record { rows = s.rows; twins = including eqb v s.twins })
     go (found b k) = rw k f
     go (added b k e) = rw k (fine_more_twins n s v f h (λ j l. eqb-false (get_or s.twins j 0) v (e 0 j l)))

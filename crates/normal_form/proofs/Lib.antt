@@ -13,8 +13,6 @@ pub mod ShapeFinished
 pub mod Meaning
 pub mod MeaningImage
 pub mod MeaningCondition
-pub mod MeaningCopy
-pub mod Twinless
 pub mod MeaningParts
 pub mod MeaningActs
 pub mod MeaningRules

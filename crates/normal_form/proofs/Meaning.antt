@@ -7,7 +7,7 @@ use mathlib.Core.List.{List}
 use lib.ListN.{length, get_or}
 use lib.Dec.{eqb}
 use borrow.Author.Tests.{eqb-true}
-use Rattle.task.specs.Table.{Row, FormulaKind, formula_kind}
+use Rattle.task.specs.Table.{Row, formula_kind}
 use Rattle.task.specs.Rules.{no_row}
 use Rattle.task.specs.Semantics.{Formula, holds}
 use Rattle.task.specs.Tree.{formula_node, formula_of}
@@ -18,7 +18,7 @@ use Rattle.normal_form.specs.Builder.{St, Got, Build, give, bind, row, Polarity,
 use Rattle.normal_form.specs.Growth.{Prefix, Grows, Steady}
 pub use Rattle.normal_form.proofs.Growth.{longer, prefix_at}
 use Rattle.normal_form.proofs.Growth.{prefix_trans, steady_row}
-use Rattle.normal_form.proofs.Fine.{Joins, Fine, fine_row, row_below, row_has}
+use Rattle.normal_form.proofs.Fine.{Fine, PositiveKind, fine_row, row_below, row_has}
 
 -- A source state of n variables and a compiled state that corresponds to it, once all twins (final) are met.
 pub record Seen (n : ℕ) (s : St) : Type 0 where
@@ -34,9 +34,9 @@ pub record Means (n : ℕ) (b : List ℕ → Bool) (s : St) (a : ℕ) : Type 0 w
   pub below : a < length s.rows
   pub value : (w : Seen n s) → holds w.compiled (formula_of s.rows a) ≡ b w.source
 
--- A step's answer: the state after it is fine, with rows of allowed kinds, and the value is as P says.
-pub record Good {A : Type 0} (allowed : FormulaKind → Type 0) (n : ℕ) (P : St → A → Type 0) (g : Got A) : Type 0 where
-  pub fine : Fine allowed n g.st
+-- A step's answer: the state after it is fine, and the value is as P says.
+pub record Good {A : Type 0} (n : ℕ) (P : St → A → Type 0) (g : Got A) : Type 0 where
+  pub fine : Fine n g.st
   pub value : P g.st g.value
 
 abbrev pub seen_before : {n : ℕ} {s t : St} → Grows s t → Seen n t → Seen n s
@@ -51,8 +51,8 @@ seen_before g w =
     }
 
 -- rows stay what they mean when building goes on
-pub means_later : {allowed : FormulaKind → Type 0} {n : ℕ} {b : List ℕ → Bool} {s t : St} {a : ℕ} → Fine allowed n s → Grows s t → Means n b s a → Means n b t a
-means_later {n = n} {b = b} {s = s} {t = t} {a = a} f g m =
+pub means_later : {n : ℕ} {b : List ℕ → Bool} {s t : St} {a : ℕ} → Fine n s → Grows s t → Means n b s a → Means n b t a
+means_later {n} {b} {s} {t} {a} f g m =
     record {
       below = omega (arith, longer s.rows t.rows g.rows, m.below);
       value =
@@ -72,14 +72,14 @@ pub means_as :
 means_as c m e = record { below = m.below; value = λ w. m.value w ∙ e w }
 
 pub good_bind :
-    {allowed : FormulaKind → Type 0} {A B : Type 0} {n : ℕ} {P : St → A → Type 0} {Q : St → B → Type 0} (m : Build A) (f : A → Build B) (s : St)
-    → Good allowed n P (m s)
-    → (Fine allowed n (m s).st → P (m s).st (m s).value → Good allowed n Q (f (m s).value (m s).st))
-    → Good allowed n Q (bind m f s)
+    {A B : Type 0} {n : ℕ} {P : St → A → Type 0} {Q : St → B → Type 0} (m : Build A) (f : A → Build B) (s : St)
+    → Good n P (m s)
+    → (Fine n (m s).st → P (m s).st (m s).value → Good n Q (f (m s).value (m s).st))
+    → Good n Q (bind m f s)
 unfolding bind
 good_bind m f s g k = k g.fine g.value
 
-pub good_give : {allowed : FormulaKind → Type 0} {A : Type 0} {n : ℕ} {P : St → A → Type 0} (x : A) (s : St) → Fine allowed n s → P s x → Good allowed n P (give x s)
+pub good_give : {A : Type 0} {n : ℕ} {P : St → A → Type 0} (x : A) (s : St) → Fine n s → P s x → Good n P (give x s)
 unfolding give
 good_give x s f p = record { fine = f; value = p }
 
@@ -102,9 +102,9 @@ pub row_unfolds :
     → formula_of rows i ≡ formula_node (formula_kind r.kind) r.a (formula_of rows r.a) (formula_of rows r.b)
 row_unfolds v rows i r down h e = formula_unfolds v rows down i h ∙ rw e
 
-means_zero : {allowed : FormulaKind → Type 0} {n : ℕ} {s : St} → Fine allowed n s → Means n (λ source. false) s 0
+means_zero : {n : ℕ} {s : St} → Fine n s → Means n (λ source. false) s 0
 unfolding formula_kind formula_node holds
-means_zero {n = n} {s = s} f =
+means_zero {n} {s} f =
     record {
       below = omega (arith, f.two);
       value =
@@ -114,9 +114,9 @@ means_zero {n = n} {s = s} f =
           (omega (arith, f.two)) f.row_false);
     }
 
-means_one : {allowed : FormulaKind → Type 0} {n : ℕ} {s : St} → Fine allowed n s → Means n (λ source. true) s 1
+means_one : {n : ℕ} {s : St} → Fine n s → Means n (λ source. true) s 1
 unfolding formula_kind formula_node holds
-means_one {n = n} {s = s} f =
+means_one {n} {s} f =
     record {
       below = omega (arith, f.two);
       value =
@@ -126,11 +126,11 @@ means_one {n = n} {s = s} f =
           (omega (arith, f.two)) f.row_true);
     }
 
-pub means_falsity : {allowed : FormulaKind → Type 0} {n : ℕ} {s : St} (p : Polarity) → Fine allowed n s → Means n (λ source. sense p false) s (image_of_false p)
+pub means_falsity : {n : ℕ} {s : St} (p : Polarity) → Fine n s → Means n (λ source. sense p false) s (image_of_false p)
 means_falsity plain f = means_zero f
 means_falsity negated f = means_one f
 
-pub means_truth : {allowed : FormulaKind → Type 0} {n : ℕ} {s : St} (p : Polarity) → Fine allowed n s → Means n (λ source. sense p true) s (image_of_true p)
+pub means_truth : {n : ℕ} {s : St} (p : Polarity) → Fine n s → Means n (λ source. sense p true) s (image_of_true p)
 means_truth plain f = means_one f
 means_truth negated f = means_zero f
 
@@ -201,69 +201,50 @@ meet_true_right plain false y e = refl
 meet_true_right negated true y e = refl
 meet_true_right negated false y e = sym e
 
--- A connective of two operands, by a row's kind: the row's rule, and what it says.
-pub record Connects (kind : ℕ) (says : Bool → Bool → Bool) : Type 0 where
-  pub kept : (v i a b : ℕ) → a < i → b < i → FormulaKept v i (record { kind = kind; a = a; b = b })
-  pub said :
-      (a : ℕ) (c : List ℕ) (q r : Formula)
-      → holds c (formula_node (formula_kind kind) a q r) ≡ says (holds c q) (holds c r)
-
-join_connects : (p : Polarity) → Connects (join_kind p) (meet p)
-unfolding formula_kind formula_node holds
-join_connects plain = record { kept = λ v i a b h g. (h, g); said = λ a c q r. refl }
-join_connects negated = record { kept = λ v i a b h g. (h, g); said = λ a c q r. refl }
-
-join_allowed : {allowed : FormulaKind → Type 0} → Joins allowed → (p : Polarity) → allowed (formula_kind (join_kind p))
+joined_kept : (p : Polarity) (v i a b : ℕ) → a < i → b < i → FormulaKept v i (record { kind = join_kind p; a = a; b = b })
 unfolding formula_kind
-join_allowed joins plain = joins.ands
-join_allowed joins negated = joins.ors
+joined_kept plain v i a b h g = (h, g)
+joined_kept negated v i a b h g = (h, g)
 
--- a row of an allowed kind that keeps its rule, by what its words say in the state after it
-pub good_row :
-    {allowed : FormulaKind → Type 0} {n : ℕ} {b : List ℕ → Bool} (q : Row) (s : St)
-    → Fine allowed n s
-    → FormulaKept (n + length s.twins) (length s.rows) q
-    → allowed (formula_kind q.kind)
-    → ((w : Seen n (row q s).st)
-    → let rows = (row q s).st.rows in
-    holds w.compiled (formula_node (formula_kind q.kind) q.a (formula_of rows q.a) (formula_of rows q.b))
-    ≡ b w.source)
-    → Good allowed n (Means n b) (row q s)
-good_row {allowed} {n} q s f kept kind said =
-    let u = (row q s).st in
-    let fine : Fine allowed n u = fine_row n s q f kept kind in
-    record {
-      fine = fine;
-      value =
-          record {
-            below = row_below q s;
-            value =
-                λ w.
-                ap (holds w.compiled)
-                (row_unfolds (n + length u.twins) u.rows (row q s).value q fine.down (row_below q s) (row_has q s))
-                ∙ said w;
-          };
-    }
+joined_positive : (p : Polarity) → PositiveKind (formula_kind (join_kind p))
+unfolding formula_kind
+joined_positive plain = tt
+joined_positive negated = tt
 
-module _ {allowed : FormulaKind → Type 0} {n : ℕ} {x y : List ℕ → Bool} (s : St) (a b : ℕ) (f : Fine allowed n s) (l : Means n x s a) (r : Means n y s b) where
-  -- a connective's row over two that stand
-  pub good_connected :
-      {kind : ℕ} {says : Bool → Bool → Bool}
-      → Connects kind says
-      → allowed (formula_kind kind)
-      → Good allowed n (Means n (λ source. says (x source) (y source))) (row (record { kind = kind; a = a; b = b }) s)
-  good_connected {kind} {says} c k =
-      let q : Row = record { kind = kind; a = a; b = b } in
+joined_holds :
+    (p : Polarity) (a : ℕ) (c : List ℕ) (q r : Formula)
+    → holds c (formula_node (formula_kind (join_kind p)) a q r) ≡ meet p (holds c q) (holds c r)
+unfolding formula_kind formula_node holds
+joined_holds plain a c q r = refl
+joined_holds negated a c q r = refl
+
+module _ {n : ℕ} {x y : List ℕ → Bool} (p : Polarity) (s : St) (a b : ℕ) (f : Fine n s) (l : Means n x s a) (r : Means n y s b) where
+  good_fresh : Good n (Means n (λ source. meet p (x source) (y source))) (row (record { kind = join_kind p; a = a; b = b }) s)
+  good_fresh =
+      let q : Row = record { kind = join_kind p; a = a; b = b } in
       let u = (row q s).st in
+      let fine : Fine n u =
+      fine_row n s q f (joined_kept p (n + length s.twins) (length s.rows) a b l.below r.below)
+      (joined_positive p)
+      in
       let l' = means_later f ((steady_row q).grow s) l in
       let r' = means_later f ((steady_row q).grow s) r in
-      good_row q s f (c.kept (n + length s.twins) (length s.rows) a b l.below r.below) k
-      (λ w.
-      c.said a w.compiled (formula_of u.rows a) (formula_of u.rows b)
-      ∙ ap₂ says (l'.value w) (r'.value w))
+      record {
+        fine = fine;
+        value =
+            record {
+              below = row_below q s;
+              value =
+                  λ w.
+                  ap (holds w.compiled)
+                  (row_unfolds (n + length u.twins) u.rows (row q s).value q fine.down (row_below q s)
+                  (row_has q s))
+                  ∙ joined_holds p a w.compiled (formula_of u.rows a) (formula_of u.rows b)
+                  ∙ ap₂ (meet p) (l'.value w) (r'.value w);
+            };
+      }
 
-module _ {allowed : FormulaKind → Type 0} (joins : Joins allowed) {n : ℕ} {x y : List ℕ → Bool} (p : Polarity) (s : St) (a b : ℕ) (f : Fine allowed n s) (l : Means n x s a) (r : Means n y s b) where
-  good_joined : (c : Choice) → Folded p a b c → Good allowed n (Means n (λ source. meet p (x source) (y source))) (join_as p c a b s)
+  good_joined : (c : Choice) → Folded p a b c → Good n (Means n (λ source. meet p (x source) (y source))) (join_as p c a b s)
   unfolding join_as
   good_joined absorbed (left_false e) =
       good_give (image_of_false p) s f
@@ -279,23 +260,23 @@ module _ {allowed : FormulaKind → Type 0} (joins : Joins allowed) {n : ℕ} {x
   good_joined only_left (right_true e) =
       good_give a s f
       (means_as _ l (λ w. meet_true_right p (x w.source) (y w.source) (means_alike r (means_truth p f) e w)))
-  good_joined own_row neither = good_connected s a b f l r (join_connects p) (join_allowed joins p)
+  good_joined own_row neither = good_fresh
 
-  pub good_join : Good allowed n (Means n (λ source. meet p (x source) (y source))) (join p a b s)
+  pub good_join : Good n (Means n (λ source. meet p (x source) (y source))) (join p a b s)
   unfolding join
   good_join = good_joined (choice p a b) (folded p a b)
 
 -- a pair: left, right, then the join
 pub good_pair :
-    {allowed : FormulaKind → Type 0} (joins : Joins allowed) {n : ℕ} {x y : List ℕ → Bool} (p : Polarity) (l r : Build ℕ) (s : St)
+    {n : ℕ} {x y : List ℕ → Bool} (p : Polarity) (l r : Build ℕ) (s : St)
     → Steady r
-    → Good allowed n (Means n x) (l s)
-    → ((t : St) → Fine allowed n t → Good allowed n (Means n y) (r t))
-    → Good allowed n (Means n (λ source. meet p (x source) (y source))) (pair p l r s)
+    → Good n (Means n x) (l s)
+    → ((t : St) → Fine n t → Good n (Means n y) (r t))
+    → Good n (Means n (λ source. meet p (x source) (y source))) (pair p l r s)
 unfolding pair
-good_pair joins {n} {x} {y} p l r s steady gl gr =
+good_pair {n} {x} {y} p l r s steady gl gr =
     good_bind {Q = Means n (λ source. meet p (x source) (y source))} l (λ a. bind r (λ b. join p a b)) s gl
     (λ f m.
     let t = (l s).st in
     good_bind {Q = Means n (λ source. meet p (x source) (y source))} r (λ b. join p (l s).value b) t (gr t f)
-    (λ f' m'. good_join joins p (r t).st (l s).value (r t).value f' (means_later f (steady.grow t) m) m'))
+    (λ f' m'. good_join p (r t).st (l s).value (r t).value f' (means_later f (steady.grow t) m) m'))

@@ -21,7 +21,7 @@ use Rattle.normal_form.specs.Finished.{built}
 use Rattle.normal_form.proofs.Growth.{steady_each}
 use Rattle.normal_form.proofs.Steady.{steady_image, steady_changes, steady_operator}
 use Rattle.normal_form.proofs.Place.{one_more}
-use Rattle.normal_form.proofs.Fine.{PositiveKind, positive_joins, Fine, fine_start}
+use Rattle.normal_form.proofs.Fine.{Fine, fine_start}
 use Rattle.normal_form.proofs.Meaning.{Means, Good, means_later}
 use Rattle.normal_form.proofs.MeaningImage.{Over, good_image}
 use Rattle.normal_form.proofs.MeaningCondition.{EffectOver, ChangesMean, good_changes}
@@ -104,22 +104,21 @@ each_more P m l x e p =
           (omega (arith, length-append l (x ∷ []), e.count));
     }
 
--- f 0, f 1 .. f (m - 1), each in a state that is grown from the first
 pub good_each :
-    {allowed : FormulaKind → Type 0} {A : Type 0} {n : ℕ} (P : ℕ → St → A → Type 0) (f : ℕ → Build A)
-    → ((k : ℕ) (s t : St) (x : A) → Fine allowed n s → Grows s t → P k s x → P k t x)
+    {A : Type 0} {n : ℕ} (P : ℕ → St → A → Type 0) (f : ℕ → Build A)
+    → ((k : ℕ) (s t : St) (x : A) → Fine n s → Grows s t → P k s x → P k t x)
     → ((k : ℕ) → Steady (f k))
     → (m : ℕ) (s : St)
-    → ((k : ℕ) → k < m → (t : St) → Grows s t → Fine allowed n t → Good allowed n (P k) (f k t))
-    → Fine allowed n s
-    → Good allowed n (λ u. Each (λ k. P k u) m) (each m f s)
+    → ((k : ℕ) → k < m → (t : St) → Fine n t → Good n (P k) (f k t))
+    → Fine n s
+    → Good n (λ u. Each (λ k. P k u) m) (each m f s)
 unfolding each bind give
 good_each P f later steady zero s h fine =
     record { fine = fine; value = record { count = refl; at = λ d k b. absurd (not-suc-le-zero b) } }
 good_each P f later steady (suc m) s h fine =
     let g = good_each P f later steady m s (λ k b. h k (omega arith)) fine in
     let t = (each m f s).st in
-    let last = h m (omega arith) t ((steady_each m steady).grow s) g.fine in
+    let last = h m (omega arith) t g.fine in
     let u = (f m t).st in
     record {
       fine = last.fine;
@@ -132,9 +131,9 @@ good_each P f later steady (suc m) s h fine =
           last.value;
     }
 
-pub changes_later :
-    {allowed : FormulaKind → Type 0} {n : ℕ} (e : Effect) (v : ℕ) (s t : St) (c : Changes)
-    → Fine allowed n s
+changes_later :
+    {n : ℕ} (e : Effect) (v : ℕ) (s t : St) (c : Changes)
+    → Fine n s
     → Grows s t
     → ChangesMean n e v s c
     → ChangesMean n e v t c
@@ -152,7 +151,7 @@ pub record BuiltMeans (t : Task) (o : ℕ) (s : St) (b : Built) : Type 0 where
 
 built_later :
     (t : Task) (o : ℕ) (s u : St) (b : Built)
-    → Fine PositiveKind (length t.initial) s
+    → Fine (length t.initial) s
     → Grows s u
     → BuiltMeans t o s b
     → BuiltMeans t o u b
@@ -178,8 +177,8 @@ module _ (t : Task) (rules : Checked t) where
   good_operator :
       (o : ℕ) (s : St)
       → o < length t.operators
-      → Fine PositiveKind (length t.initial) s
-      → Good PositiveKind (length t.initial) (BuiltMeans t o) (built_operator t o s)
+      → Fine (length t.initial) s
+      → Good (length t.initial) (BuiltMeans t o) (built_operator t o s)
   unfolding built_operator bind give operator_of effect_of_operator
   good_operator o s h fine =
       let n = length t.initial in
@@ -187,37 +186,37 @@ module _ (t : Task) (rules : Checked t) where
       let pre = formula_of t.formulas (operator_of t o).precondition in
       let rule = rules.operator o h in
       let down = rules_formulas t rules in
-      let gp = good_image positive_joins plain pre s (over_formula n t.formulas down (operator_of t o).precondition rule.formula) fine in
+      let gp = good_image plain pre s (over_formula n t.formulas down (operator_of t o).precondition rule.formula) fine in
       let p = image n plain pre s in
       let eo : EffectOver n e =
       over_effect n n t.formulas t.effects down (rules_effects t rules) (operator_of t o).effect rule.changes
       in
       let gc =
-      good_each (ChangesMean n e) (changes_of (image n) e) (changes_later e) (steady_changes (image n) (steady_image n) e) n p.st
-      (λ v b u grown f. good_changes positive_joins (image n) (steady_image n) (good_image positive_joins) e v u eo f) gp.fine
+      good_each (ChangesMean n e) (changes_of n e) (changes_later e) (steady_changes n e) n p.st
+      (λ v b u f. good_changes e v u eo f) gp.fine
       in
       record {
         fine = gc.fine;
         value =
             record {
-              precondition = means_later gp.fine ((steady_each n (steady_changes (image n) (steady_image n) e)).grow p.st) gp.value;
+              precondition = means_later gp.fine ((steady_each n (steady_changes n e)).grow p.st) gp.value;
               changes = gc.value;
               source = refl;
             };
       }
 
-  pub good_parts : Good PositiveKind (length t.initial) (PartsMean t) (built t)
+  pub good_parts : Good (length t.initial) (PartsMean t) (built t)
   unfolding built parts bind give
   good_parts =
       let n = length t.initial in
       let go =
       good_each (BuiltMeans t) (built_operator t) (built_later t) (steady_operator t) (length t.operators) start
-      (λ o h s grown f. good_operator o s h f) (fine_start positive_joins n)
+      (λ o h s f. good_operator o s h f) (fine_start n)
       in
       let os = each (length t.operators) (built_operator t) start in
       let goal = formula_of t.formulas t.goal in
       let gg =
-      good_image positive_joins plain goal os.st
+      good_image plain goal os.st
       (over_formula n t.formulas (rules_formulas t rules) t.goal rules.goal_is_formula) go.fine
       in
       let u = (image n plain goal os.st).st in

@@ -3,7 +3,7 @@ use Prim.Native.Nat.{ℕ, zero, suc, ◌+◌, ◌<◌}
 use native.Mathlib.Nat.{not-suc-le-zero}
 use native.Mathlib.Omega.{arith}
 use mathlib.Core.Path.{◌≡◌, refl, sym, ap, ap₂, ◌∙◌}
-use mathlib.Core.Bool.{Bool, true, false, cond, ◌&&◌, ◌||◌, or-false, and-false}
+use mathlib.Core.Bool.{Bool, true, false, cond, ◌&&◌, ◌||◌}
 use mathlib.Core.List.{List, [], ◌∷◌, ◌++◌}
 use lib.ListN.{length, get_or}
 use lib.Dec.{eqb, ltb}
@@ -16,11 +16,23 @@ use Rattle.normal_form.specs.Builder.{place}
 use Rattle.normal_form.specs.Operators.{Changes}
 use Rattle.normal_form.specs.Assembly.{Rule, rule, with_twin, rules_of, rules}
 use Rattle.normal_form.proofs.Place.{place_found, place_here}
-use Rattle.normal_form.proofs.MeaningActs.{acts, or_regroup}
+use Rattle.normal_form.proofs.MeaningActs.{acts}
 
 -- variable x is v's twin
 unfoldable pub twinned : ℕ → List ℕ → ℕ → ℕ → Bool
 twinned n twins x v = ltb (place eqb v twins) (length twins) && eqb x (n + place eqb v twins)
+
+or_regroup : (x y z : Bool) → ((x || y) || z) ≡ (x || (y || z))
+or_regroup true y z = refl
+or_regroup false y z = refl
+
+or_none : (x : Bool) → (x || false) ≡ x
+or_none true = refl
+or_none false = refl
+
+and_none : (x : Bool) → (x && false) ≡ false
+and_none true = refl
+and_none false = refl
 
 set_bools : (x y p b t : Bool) → ((x && b) || ((x && (p && false)) || ((y && false) || (y && (p && t))))) ≡ ((x && b) || (y && (p && t)))
 set_bools true y p true t = refl
@@ -32,12 +44,12 @@ set_bools false true p b t = refl
 set_bools false false p b t = refl
 
 clear_bools : (x y p b t : Bool) → ((x && false) || ((x && (p && t)) || ((y && b) || (y && (p && false))))) ≡ ((x && (p && t)) || (y && b))
-clear_bools true true true b t = ap (λ (x : Bool). t || x) (or-false b)
-clear_bools true true false b t = or-false b
+clear_bools true true true b t = ap (λ (x : Bool). t || x) (or_none b)
+clear_bools true true false b t = or_none b
 clear_bools true false true b t = refl
 clear_bools true false false b t = refl
-clear_bools false true true b t = or-false b
-clear_bools false true false b t = or-false b
+clear_bools false true true b t = or_none b
+clear_bools false true false b t = or_none b
 clear_bools false false p b t = refl
 
 module _ (formulas : List Row) (c : List ℕ) (zeroth : holds c (formula_of formulas 0) ≡ false) where
@@ -58,7 +70,7 @@ module _ (formulas : List Row) (c : List ℕ) (zeroth : holds c (formula_of form
           → acts formulas c l (cond b [] (record { condition = a; atom = m } ∷ []))
           ≡ (holds c (formula_of formulas a) && same_atom l m)
       go true e = sym (ap (λ (x : Bool). x && same_atom l m) (ap (λ (k : ℕ). holds c (formula_of formulas k)) (eqb-true a 0 e) ∙ zeroth))
-      go false e = or-false (holds c (formula_of formulas a) && same_atom l m)
+      go false e = or_none (holds c (formula_of formulas a) && same_atom l m)
 
   acts_twin :
       (n : ℕ) (twins : List ℕ) (l : Atom) (v a : ℕ) (make : ℕ → Atom)
@@ -73,7 +85,7 @@ module _ (formulas : List Row) (c : List ℕ) (zeroth : holds c (formula_of form
           → acts formulas c l (cond b (rule a (make (n + place eqb v twins))) [])
           ≡ (holds c (formula_of formulas a) && (b && same_atom l (make (n + place eqb v twins))))
       go true = acts_rule l (make (n + place eqb v twins)) a
-      go false = sym (and-false (holds c (formula_of formulas a)))
+      go false = sym (and_none (holds c (formula_of formulas a)))
 
   module _ (n : ℕ) (twins : List ℕ) (ch : Changes) where
     four :
@@ -143,7 +155,7 @@ module _ (formulas : List Row) (c : List ℕ) (zeroth : holds c (formula_of form
       acts_append l (rules_of n twins ch) (rules n twins cs)
       ∙ ap (λ (x : Bool). acts formulas c l (rules_of n twins ch) || x)
       (acts_none n twins l d cs (λ k b. h (suc k) (omega arith) (λ e. omega arith)))
-      ∙ or-false (acts formulas c l (rules_of n twins ch))
+      ∙ or_none (acts formulas c l (rules_of n twins ch))
   acts_one n twins l d (ch ∷ cs) (suc x) b h =
       acts_append l (rules_of n twins ch) (rules n twins cs)
       ∙ ap₂ ◌||◌ (h 0 (omega arith) (λ e. omega arith))

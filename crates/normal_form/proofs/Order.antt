@@ -15,8 +15,7 @@ use Rattle.task.specs.Semantics.{Formula, falsum, verum, variable, negation, con
 use Rattle.normal_form.specs.Builder.{St, Got, Build, give, bind, row, including, same_row, variable_row, twin_row, twin, Polarity, plain, negated, opposite, image_of_false, image_of_true, join_kind, Choice, absorbed, only_left, only_right, own_row, choice, join_as, join, pair}
 use Rattle.normal_form.specs.Growth.{Grows, Steady}
 use Rattle.normal_form.specs.Image.{literal, image}
-use Rattle.normal_form.specs.Conditions.{Becoming, guarded, condition}
-use Rattle.normal_form.specs.Copy.{over_two, copy, itself}
+use Rattle.normal_form.specs.Conditions.{guarded, condition}
 use Rattle.normal_form.specs.Operators.{deletes_of, changes_of}
 use Rattle.normal_form.proofs.Growth.{longer, prefix_at, steady_pair}
 use Rattle.normal_form.proofs.Steady.{steady_image, steady_condition}
@@ -105,68 +104,42 @@ image_stands n p (equivalence f g) =
     (pair_stands plain (steady_image n negated f) (steady_image n (opposite p) g) (image_stands n negated f)
     (image_stands n (opposite p) g))
 
--- The row of a copy stands (02, K3).
-over_two_stands : (kind : ℕ) (l r : Build ℕ) → Stands (over_two kind l r)
-unfolding over_two bind
-over_two_stands kind l r =
+guarded_stands :
+    (n : ℕ) (p : Polarity) (f : Formula) (c : ℕ) (s : St)
+    → 2 ≤ length s.rows
+    → c < length s.rows
+    → (guarded n p f c s).value < length (guarded n p f c s).st.rows
+unfolding guarded give bind
+guarded_stands n p f c s two h = go (eqb c (image_of_false p))
+  where
+    go : (b : Bool)
+        → (cond b (give c) (bind (image n p f) (λ a. join p a c)) s).value
+        < length (cond b (give c) (bind (image n p f) (λ a. join p a c)) s).st.rows
+    go true = h
+    go false =
+        let x = (image n p f s).st in
+        let g = rows_longer ((steady_image n p f).grow s) in
+        join_stands x (omega arith) p (image n p f s).value c ((image_stands n p f).stands s two) (omega arith)
+
+pub condition_stands : (n : ℕ) (p : Polarity) (l : Atom) (e : Effect) → Stands (condition n p l e)
+unfolding condition bind
+condition_stands n p l empty = falsity_stands p
+condition_stands n p l (atomic m) = go (same_atom l m)
+  where
+    go : (b : Bool) → Stands (give (cond b (image_of_true p) (image_of_false p)))
+    go true = truth_stands p
+    go false = falsity_stands p
+condition_stands n p l (both e f) =
+    pair_stands (opposite p) (steady_condition n p l e) (steady_condition n p l f) (condition_stands n p l e)
+    (condition_stands n p l f)
+condition_stands n p l (under f e) =
     record {
-      stands = λ s two. row_below (record { kind = kind; a = (l s).value; b = (r (l s).st).value }) (r (l s).st).st;
+      stands =
+          λ s two.
+          let x = condition n p l e s in
+          let g = rows_longer ((steady_condition n p l e).grow s) in
+          guarded_stands n p f x.value x.st (omega arith) ((condition_stands n p l e).stands s two);
     }
-
-pub copy_stands : (f : Formula) → Stands (copy f)
-unfolding copy bind variable_row
-copy_stands falsum = give_stands 0 (omega arith)
-copy_stands verum = give_stands 1 (omega arith)
-copy_stands (variable v) = record { stands = λ s two. row_below (record { kind = 2; a = v; b = 0 }) s }
-copy_stands (negation f) =
-    record { stands = λ s two. row_below (record { kind = 3; a = (copy f s).value; b = 0 }) (copy f s).st }
-copy_stands (conjunction f g) = over_two_stands 4 (copy f) (copy g)
-copy_stands (disjunction f g) = over_two_stands 5 (copy f) (copy g)
-copy_stands (implication f g) = over_two_stands 6 (copy f) (copy g)
-copy_stands (equivalence f g) = over_two_stands 7 (copy f) (copy g)
-
-pub itself_stands : (p : Polarity) (f : Formula) → Stands (itself p f)
-unfolding itself
-itself_stands p f = copy_stands f
-
--- Whatever a formula becomes, if that is steady and its row stands.
-module _ (becomes : Becoming) (steady : (p : Polarity) (f : Formula) → Steady (becomes p f)) (stand : (p : Polarity) (f : Formula) → Stands (becomes p f)) where
-  guarded_stands :
-      (p : Polarity) (f : Formula) (c : ℕ) (s : St)
-      → 2 ≤ length s.rows
-      → c < length s.rows
-      → (guarded becomes p f c s).value < length (guarded becomes p f c s).st.rows
-  unfolding guarded give bind
-  guarded_stands p f c s two h = go (eqb c (image_of_false p))
-    where
-      go : (b : Bool)
-          → (cond b (give c) (bind (becomes p f) (λ a. join p a c)) s).value
-          < length (cond b (give c) (bind (becomes p f) (λ a. join p a c)) s).st.rows
-      go true = h
-      go false =
-          let x = (becomes p f s).st in
-          let g = rows_longer ((steady p f).grow s) in
-          join_stands x (omega arith) p (becomes p f s).value c ((stand p f).stands s two) (omega arith)
-
-  pub condition_stands : (p : Polarity) (l : Atom) (e : Effect) → Stands (condition becomes p l e)
-  unfolding condition bind
-  condition_stands p l empty = falsity_stands p
-  condition_stands p l (atomic m) = go (same_atom l m)
-    where
-      go : (b : Bool) → Stands (give (cond b (image_of_true p) (image_of_false p)))
-      go true = truth_stands p
-      go false = falsity_stands p
-  condition_stands p l (both e f) =
-      pair_stands (opposite p) (steady_condition becomes steady p l e) (steady_condition becomes steady p l f) (condition_stands p l e)
-      (condition_stands p l f)
-  condition_stands p l (under f e) =
-      record {
-        stands =
-            λ s two.
-            let x = condition becomes p l e s in
-            let g = rows_longer ((steady_condition becomes steady p l e).grow s) in
-            guarded_stands p f x.value x.st (omega arith) ((condition_stands p l e).stands s two);
-      }
 
 -- A value stays what it is in every later state.
 pub value_later : {A : Type 0} {m : Build A} → Steady m → (s u : St) → Grows (m s).st u → (m u).value ≡ (m s).value
@@ -318,41 +291,41 @@ module _ (p : Polarity) (l r : Build ℕ) (s : St) where
   unfolding pair bind
   pair_is = refl
 
--- An effect under a formula: the inner effect first. If it is false (dually true), nothing else; else what the formula becomes, then their join.
-module _ (becomes : Becoming) (p : Polarity) (l : Atom) (f : Formula) (e : Effect) (s : St) where
-  pub under_false : (condition becomes p l e s).value ≡ image_of_false p → condition becomes p l (under f e) s ≡ condition becomes p l e s
+-- An effect under a formula: the inner effect first. If it is false (dually true), nothing else; else the formula's image, then their join.
+module _ (n : ℕ) (p : Polarity) (l : Atom) (f : Formula) (e : Effect) (s : St) where
+  pub under_false : (condition n p l e s).value ≡ image_of_false p → condition n p l (under f e) s ≡ condition n p l e s
   unfolding condition bind guarded give
-  under_false q = rw (eq-eqb (condition becomes p l e s).value (image_of_false p) q)
+  under_false q = rw (eq-eqb (condition n p l e s).value (image_of_false p) q)
 
   pub under_is :
-      ((condition becomes p l e s).value ≡ image_of_false p → ⊥)
-      → let c = condition becomes p l e s in
-      let a = becomes p f c.st in
-      condition becomes p l (under f e) s ≡ join p a.value c.value a.st
+      ((condition n p l e s).value ≡ image_of_false p → ⊥)
+      → let c = condition n p l e s in
+      let a = image n p f c.st in
+      condition n p l (under f e) s ≡ join p a.value c.value a.st
   unfolding condition bind guarded
-  under_is q = rw (ne_eqb (condition becomes p l e s).value (image_of_false p) q)
+  under_is q = rw (ne_eqb (condition n p l e s).value (image_of_false p) q)
 
 -- A variable's changes: A, then D; if neither is row 0, then N and the join of D and N.
-module _ (becomes : Becoming) (e : Effect) (v : ℕ) (s : St) where
+module _ (n : ℕ) (e : Effect) (v : ℕ) (s : St) where
   abbrev A : Got ℕ
-  A = condition becomes plain (sets v) e s
+  A = condition n plain (sets v) e s
 
   abbrev D : Got ℕ
-  D = condition becomes plain (clears v) e A.st
+  D = condition n plain (clears v) e A.st
 
   abbrev N : Got ℕ
-  N = condition becomes negated (sets v) e D.st
+  N = condition n negated (sets v) e D.st
 
   pub changes_alone :
       (A.value ≡ 0) ⊎ (D.value ≡ 0)
-      → changes_of becomes e v s ≡ record { value = record { variable = v; adds = A.value; deletes = D.value }; st = D.st }
+      → changes_of n e v s ≡ record { value = record { variable = v; adds = A.value; deletes = D.value }; st = D.st }
   unfolding changes_of deletes_of bind give
   changes_alone (inl q) = rw (eq-eqb A.value 0 q)
   changes_alone (inr q) = go (eqb A.value 0) refl
     where
       go : (b : Bool)
           → eqb A.value 0 ≡ b
-          → changes_of becomes e v s ≡ record { value = record { variable = v; adds = A.value; deletes = D.value }; st = D.st }
+          → changes_of n e v s ≡ record { value = record { variable = v; adds = A.value; deletes = D.value }; st = D.st }
       go true w = rw w
       go false w = rw (w, eq-eqb D.value 0 q)
 
@@ -360,6 +333,6 @@ module _ (becomes : Becoming) (e : Effect) (v : ℕ) (s : St) where
       (A.value ≡ 0 → ⊥)
       → (D.value ≡ 0 → ⊥)
       → let k = join plain D.value N.value N.st in
-      changes_of becomes e v s ≡ record { value = record { variable = v; adds = A.value; deletes = k.value }; st = k.st }
+      changes_of n e v s ≡ record { value = record { variable = v; adds = A.value; deletes = k.value }; st = k.st }
   unfolding changes_of deletes_of bind give
   changes_joined q r = rw (ne_eqb A.value 0 q, ne_eqb D.value 0 r)

@@ -8,7 +8,6 @@ use mathlib.Core.List.{List, [], ◌∷◌, ◌++◌}
 use lib.ListN.{length, get_or, length-append}
 use Rattle.task.specs.Semantics.{Effect}
 use Rattle.normal_form.specs.Builder.{St, Build, give, bind, each}
-use Rattle.normal_form.specs.Conditions.{Becoming}
 use Rattle.normal_form.specs.Operators.{Changes, changes_of}
 use Rattle.normal_form.proofs.Place.{one_more}
 
@@ -39,9 +38,8 @@ pub data Upwards : ℕ → List Changes → Type 0 where
   start : Upwards 0 []
   next : {m : ℕ} {cs : List Changes} (c : Changes) → c.variable ≡ m → Upwards m cs → Upwards (suc m) (cs ++ (c ∷ []))
 
-pub changes_upwards :
-    (becomes : Becoming) (m : ℕ) (e : Effect) (s : St) → Upwards m (each m (changes_of becomes e) s).value
+pub changes_upwards : (n m : ℕ) (e : Effect) (s : St) → Upwards m (each m (changes_of n e) s).value
 unfolding each bind give changes_of
-changes_upwards becomes zero e s = start
-changes_upwards becomes (suc m) e s =
-    next (changes_of becomes e m (each m (changes_of becomes e) s).st).value refl (changes_upwards becomes m e s)
+changes_upwards n zero e s = start
+changes_upwards n (suc m) e s =
+    next (changes_of n e m (each m (changes_of n e) s).st).value refl (changes_upwards n m e s)

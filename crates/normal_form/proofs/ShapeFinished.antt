@@ -11,7 +11,6 @@ use Rattle.task.specs.Semantics.{empty}
 use Rattle.task.specs.Tree.{effect_node, effect_within, effect_of}
 use Rattle.task.specs.Run.{operator_of, effect_of_operator}
 use Rattle.normal_form.specs.Builder.{give, bind, start}
-use Rattle.normal_form.specs.Image.{image}
 use Rattle.normal_form.specs.Operators.{Changes, Built, built_operator, parts}
 use Rattle.normal_form.specs.Assembly.{rules, unassembled}
 use Rattle.normal_form.specs.Finished.{built, assembled, finished}
@@ -76,7 +75,7 @@ module _ (t : Task) where
   unfolding built parts built_operator bind give
   built_upwards o h =
       each_values (λ k b. Upwards (length t.initial) b.changes) no_built (built_operator t)
-      (λ k s. changes_upwards (image (length t.initial)) (length t.initial) (effect_of_operator t k) _)
+      (λ k s. changes_upwards (length t.initial) (length t.initial) (effect_of_operator t k) _)
       (length t.operators) start o h
 
   pub flat : (o : ℕ) → Flat (effect_of_operator (finished t) o)

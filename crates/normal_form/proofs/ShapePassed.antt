@@ -17,7 +17,7 @@ use Rattle.task.proofs.Words.{lent_kept}
 use Rattle.normal_form.specs.Assembly.{rules, unassembled}
 use Rattle.normal_form.specs.Finished.{built, assembled, twin_values, finished}
 use Rattle.normal_form.specs.Positive.{Positive, PositiveTask}
-use Rattle.normal_form.proofs.Fine.{PositiveKind, Fine}
+use Rattle.normal_form.proofs.Fine.{Fine}
 use Rattle.normal_form.proofs.MeaningParts.{good_parts}
 use Rattle.normal_form.proofs.ShapeRule.{Fits}
 use Rattle.normal_form.proofs.ShapeRules.{All}
@@ -62,7 +62,7 @@ module _ (t : Task) (source : Checked t) where
   abbrev n : ℕ
   n = length t.initial
 
-  pub finished_fine : Fine PositiveKind (length t.initial) (built t).st
+  pub finished_fine : Fine (length t.initial) (built t).st
   finished_fine = (good_parts t source).fine
 
   -- each operator's rules fit the variables, twins and formulas that stand in the end
@@ -101,7 +101,7 @@ module _ (t : Task) (source : Checked t) where
 
   pub positive : Positive (finished t)
   unfolding finished
-  positive = record { row = finished_fine.kinds }
+  positive = record { row = finished_fine.positive }
 
   pub finished_positive : PositiveTask (finished t)
   finished_positive = positive_task (finished t) positive

@@ -6,13 +6,13 @@ use native.Mathlib.Decide.{dec_le}
 use mathlib.Core.Path.{◌≡◌}
 use lib.ListN.{length}
 use Rattle.task.specs.Table.{Task}
-use Rattle.task.specs.Semantics.{Formula, Effect, sets, clears}
+use Rattle.task.specs.Semantics.{Effect, sets, clears}
 use Rattle.task.specs.Tree.{formula_of}
 use Rattle.task.specs.Run.{operator_of, effect_of_operator}
-use Rattle.normal_form.specs.Builder.{St, Build, give, bind, each, start, Polarity, plain}
+use Rattle.normal_form.specs.Builder.{St, Build, give, bind, each, start, plain}
 use Rattle.normal_form.specs.Growth.{Grows, Steady}
 use Rattle.normal_form.specs.Image.{image}
-use Rattle.normal_form.specs.Conditions.{Becoming, condition}
+use Rattle.normal_form.specs.Conditions.{condition}
 use Rattle.normal_form.specs.Operators.{Changes, changes_of, built_operator, parts}
 use Rattle.normal_form.specs.Finished.{built, finished}
 use Rattle.normal_form.proofs.Growth.{longer, grows_refl, grows_trans, steady_give, steady_bind}
@@ -54,25 +54,25 @@ each_grows f s h k (suc n) b = go (dec_le k n) (each_grows f s h k n)
         rw e (grows_refl (f n (each n f s).st).st)
 
 -- The moments of building one variable's changes, an operator, and the task.
-module _ (becomes : Becoming) (steady : (p : Polarity) (f : Formula) → Steady (becomes p f)) (e : Effect) (v : ℕ) (s : St) where
+module _ (n : ℕ) (e : Effect) (v : ℕ) (s : St) where
   -- after A
-  pub adds_grows : Grows (condition becomes plain (sets v) e s).st (changes_of becomes e v s).st
+  pub adds_grows : Grows (condition n plain (sets v) e s).st (changes_of n e v s).st
   unfolding changes_of
   adds_grows =
-      bind_grows (condition becomes plain (sets v) e) _ s
+      bind_grows (condition n plain (sets v) e) _ s
       (λ a.
-      steady_bind (steady_condition becomes steady plain (clears v) e)
-      (λ d. steady_bind (steady_deletes becomes steady e v a d) (λ k. steady_give _)))
+      steady_bind (steady_condition n plain (clears v) e)
+      (λ d. steady_bind (steady_deletes n e v a d) (λ k. steady_give _)))
 
   -- after D, before it is freed of A
   pub deletes_grows :
-      Grows (condition becomes plain (clears v) e (condition becomes plain (sets v) e s).st).st (changes_of becomes e v s).st
+      Grows (condition n plain (clears v) e (condition n plain (sets v) e s).st).st (changes_of n e v s).st
   unfolding changes_of bind
   deletes_grows =
-      let a = condition becomes plain (sets v) e s in
-      bind_grows (condition becomes plain (clears v) e) _ a.st
+      let a = condition n plain (sets v) e s in
+      bind_grows (condition n plain (clears v) e) _ a.st
       (λ d.
-      steady_bind (steady_deletes becomes steady e v a.value d)
+      steady_bind (steady_deletes n e v a.value d)
       (λ k. steady_give (record { variable = v; adds = a.value; deletes = k })))
 
 module _ (t : Task) where
@@ -83,7 +83,7 @@ module _ (t : Task) where
   precondition_of o = image (length t.initial) plain (formula_of t.formulas (operator_of t o).precondition)
 
   abbrev changes_at : ℕ → ℕ → Build Changes
-  changes_at o = changes_of (image (length t.initial)) (effect_of_operator t o)
+  changes_at o = changes_of (length t.initial) (effect_of_operator t o)
 
   -- in operator o, before variable v; before variable 0 stands the precondition
   pub variable_grows :
@@ -92,7 +92,7 @@ module _ (t : Task) where
       → Grows (each v (changes_at o) (precondition_of o s).st).st (built_operator t o s).st
   unfolding built_operator bind give
   variable_grows o v s h =
-      each_grows (changes_at o) (precondition_of o s).st (steady_changes (image variables) (steady_image variables) (effect_of_operator t o)) v variables h
+      each_grows (changes_at o) (precondition_of o s).st (steady_changes variables (effect_of_operator t o)) v variables h
 
   -- before operator o; before the goal, o is their number
   pub operator_grows :

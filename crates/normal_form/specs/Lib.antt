@@ -2,7 +2,6 @@ pub mod Builder
 pub mod Growth
 pub mod Image
 pub mod Conditions
-pub mod Copy
 pub mod Operators
 pub mod Assembly
 pub mod Finished

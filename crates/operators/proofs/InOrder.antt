@@ -9,8 +9,7 @@ use Rattle.normal_form.proofs.Growth.{steady_bind, steady_each}
 use Rattle.normal_form.proofs.Steady.{steady_changes}
 use Rattle.normal_form.proofs.ShapeSizes.{each_grows}
 use Rattle.formula_builder.specs.declared.Frame.{Frame}
-use Rattle.images.specs.Inner.Images.{becoming}
-use Rattle.images.proofs.Memos.{steady_becoming, steady_image_at}
+use Rattle.images.proofs.Memos.{steady_image_at}
 use Rattle.conditions.specs.Inner.Conditions.{effect_tree}
 use Rattle.operators.specs.Inner.Operator.{all_changes, operator_built, operator_here, operators_built}
 
@@ -21,7 +20,7 @@ steady_operator_built frame formulas effects p e =
     steady_bind (steady_image_at frame formulas plain p)
     (λ f.
     steady_each frame.variables
-    (λ k. steady_changes (becoming frame) (steady_becoming frame) (effect_tree frame formulas effects e) k))
+    (λ k. steady_changes frame.variables (effect_tree frame formulas effects e) k))
 
 module _ (frame : Frame) (formulas effects operators : List ℕ) where
   steady_here : (o : ℕ) → Steady (operator_here frame formulas effects operators o)

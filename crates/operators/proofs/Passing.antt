@@ -7,12 +7,10 @@ use mathlib.Core.Bool.{Bool, true, false}
 use mathlib.Core.List.{List, [], ◌∷◌, ◌++◌, append-nil}
 use Rattle.task.specs.Semantics.{Effect}
 use Rattle.normal_form.specs.Builder.{St, Got, Build, give, bind, each}
-use Rattle.normal_form.specs.Conditions.{Becoming}
 use Rattle.normal_form.specs.Operators.{Changes, deletes_of, changes_of}
 use Rattle.formula_builder.specs.declared.Frame.{Frame}
 use Rattle.formula_builder.specs.declared.Size.{Size}
 use Rattle.formula_builder.specs.Inner.Held.{Store, held}
-use Rattle.images.specs.Inner.Images.{becoming}
 use Rattle.conditions.specs.Inner.Conditions.{effect_tree, condition_at, Unnamed}
 use Rattle.variable_changes.specs.Inner.Stands.{Reaches}
 use Rattle.atom_sets.specs.Inner.Sets.{lacks, set_from}
@@ -94,29 +92,29 @@ searched_all f s h =
     }
 
 folded :
-    (becomes : Becoming) (v : ℕ) (tree : Effect)
+    (n v : ℕ) (tree : Effect)
     → bind (give 0)
-    (λ a. bind (give 0) (λ d. bind (deletes_of becomes tree v a d) (λ k. give {A = Changes} (record { variable = v; adds = a; deletes = k }))))
+    (λ a. bind (give 0) (λ d. bind (deletes_of n tree v a d) (λ k. give {A = Changes} (record { variable = v; adds = a; deletes = k }))))
     ≡ give {A = Changes} (record { variable = v; adds = 0; deletes = 0 })
 unfolding bind give deletes_of
-folded becomes v tree = refl
+folded n v tree = refl
 
 -- a variable of which no atom is named changes nothing
 unnamed_changes :
     (frame : Frame) (formulas effects : List ℕ) (v e : ℕ)
     → ((clear : Bool) → Unnamed frame formulas effects clear v e)
-    → changes_of (becoming frame) (effect_tree frame formulas effects e) v ≡ give (record { variable = v; adds = 0; deletes = 0 })
+    → changes_of frame.variables (effect_tree frame formulas effects e) v ≡ give (record { variable = v; adds = 0; deletes = 0 })
 unfolding changes_of condition_at
 unnamed_changes frame formulas effects v e u =
-    let becomes = becoming frame in
+    let n = frame.variables in
     let tree = effect_tree frame formulas effects e in
     let set-idle = (u false).idle (record { clear = false; variable = v; negated = false }) refl refl in
     let clear-idle = (u true).idle (record { clear = true; variable = v; negated = false }) refl refl in
     ap₂
     (λ (a d : Build ℕ).
-    bind a (λ a. bind d (λ d. bind (deletes_of becomes tree v a d) (λ k. give {A = Changes} (record { variable = v; adds = a; deletes = k })))))
+    bind a (λ a. bind d (λ d. bind (deletes_of n tree v a d) (λ k. give {A = Changes} (record { variable = v; adds = a; deletes = k })))))
     set-idle clear-idle
-    ∙ folded becomes v tree
+    ∙ folded n v tree
 
 -- Two steps that build the same, and whose changes bring the same rules.
 pub record Alike (m m' : Build (List Changes)) : Type 0 where
@@ -136,7 +134,7 @@ module _ (frame : Frame) (formulas effects : List ℕ) (e : ℕ) where
       → Alike (all_changes frame formulas effects e (suc v)) (all_changes frame formulas effects e v)
   unfolding all_changes each bind give acting idle
   one_passed v u =
-      let all : St → Got (List Changes) = each v (changes_of (becoming frame) (effect_tree frame formulas effects e)) in
+      let all : St → Got (List Changes) = each v (changes_of frame.variables (effect_tree frame formulas effects e)) in
       let same = unnamed_changes frame formulas effects v e u in
       record {
         state = λ t. ap (λ (m : Build Changes). (m (all t).st).st) same;

@@ -16,8 +16,8 @@ use Rattle.formula_builder.specs.declared.Size.{Size}
 use Rattle.formula_builder.specs.declared.Step.{Step}
 use Rattle.formula_builder.specs.Inner.Held.{Store, held, size_of}
 use Rattle.formula_builder.proofs.Steps.{within_before}
-use Rattle.images.specs.Inner.Images.{becoming, image_at, Images}
-use Rattle.images.proofs.Memos.{steady_becoming, steady_image_at}
+use Rattle.images.specs.Inner.Images.{image_at, Images}
+use Rattle.images.proofs.Memos.{steady_image_at}
 use Rattle.conditions.specs.Inner.Conditions.{effect_tree, Noted}
 use Rattle.variable_changes.specs.Inner.Stands.{Stands, StandsAt, Leaves, Reaches, Makes, made}
 use Rattle.conditions.proofs.Memos.{conditions_of_images}
@@ -30,7 +30,7 @@ use Rattle.operators.specs.declared.Tally.{Tally}
 use Rattle.operators.specs.Inner.Operator.{all_changes, operator_built, LooksOn, NextTouched, BuildsOperator, size_behind, Walked, OperatorWalked}
 use Rattle.operators.proofs.Passing.{stretch_passed, reaches_alike, recorded_alike}
 
--- One variable's change asks and leaves the same for a frame that is the same, as six numbers.
+-- One variable's change asks and leaves the same for a frame that is the same, as five numbers.
 module _ {f g : Frame} (same : f ≡ g) {formulas effects notes : List ℕ} {at : Size} {before : Store} {scratch : List ℕ} (v e : ℕ) where
   pub change_asks :
       StandsAt g formulas effects notes at before scratch e × (v < g.variables)
@@ -39,9 +39,9 @@ module _ {f g : Frame} (same : f ≡ g) {formulas effects notes : List ℕ} {at 
 
   pub change_made :
       {after : Store} {full : Bool} {next : Size} {x : Changes}
-      → Makes (changes_of (becoming f) (effect_tree f formulas effects e) v) f formulas effects at before after scratch full next x
+      → Makes (changes_of f.variables (effect_tree f formulas effects e) v) f formulas effects at before after scratch full next x
       × Leaves full f formulas effects notes next after
-      → Makes (changes_of (becoming g) (effect_tree g formulas effects e) v) g formulas effects at before after scratch full next x
+      → Makes (changes_of g.variables (effect_tree g formulas effects e) v) g formulas effects at before after scratch full next x
       × Leaves full g formulas effects notes next after
   change_made x = rw (← same) x
 
@@ -85,11 +85,11 @@ module _ (frame : Frame) (formulas effects : List ℕ) (e : ℕ) where
       (x : Reaches (all_changes frame formulas effects e v) frame formulas effects at before mid s2 false here) where
     changes_more :
         {after : Store} {s3 : List ℕ} {full : Bool} {next : Size}
-        → Reaches (changes_of (becoming frame) (effect_tree frame formulas effects e) v) frame formulas effects here mid after s3 full next
+        → Reaches (changes_of frame.variables (effect_tree frame formulas effects e) v) frame formulas effects here mid after s3 full next
         → Reaches (all_changes frame formulas effects e (v + 1)) frame formulas effects at before after s3 full next
     unfolding all_changes each bind give
     changes_more y =
-        let step : St → St = λ t. (changes_of (becoming frame) (effect_tree frame formulas effects e) v t).st in
+        let step : St → St = λ t. (changes_of frame.variables (effect_tree frame formulas effects e) v t).st in
         let same = ap step (x.done refl).state in
         rw (add-one v)
         (record {
@@ -102,14 +102,14 @@ module _ (frame : Frame) (formulas effects : List ℕ) (e : ℕ) where
     more_recorded :
         {after : Store} {s3 : List ℕ} {full : Bool} {next : Size} {from k to : ℕ} {l m n : List ℕ} (c : Change)
         → Recorded (all_changes frame formulas effects e v (held at before)).value from l m k
-        → Makes (changes_of (becoming frame) (effect_tree frame formulas effects e) v) frame formulas effects here mid after s3 full next (made v c)
+        → Makes (changes_of frame.variables (effect_tree frame formulas effects e) v) frame formulas effects here mid after s3 full next (made v c)
         → full ≡ false
         → Recorded (made v c ∷ []) k m n to
         → Recorded (all_changes frame formulas effects e (v + 1) (held at before)).value from l n to
     unfolding all_changes each bind give
     more_recorded {from = from} {to = to} {l = l} {n = n} c r y q z =
-        let all = each v (changes_of (becoming frame) (effect_tree frame formulas effects e)) (held at before) in
-        let step : St → Changes = λ t. (changes_of (becoming frame) (effect_tree frame formulas effects e) v t).value in
+        let all = each v (changes_of frame.variables (effect_tree frame formulas effects e)) (held at before) in
+        let step : St → Changes = λ t. (changes_of frame.variables (effect_tree frame formulas effects e) v t).value in
         let last : step all.st ≡ made v c = ap step (x.done refl).state ∙ y.value q in
         let same = ap (λ (d : Changes). all.value ++ (d ∷ [])) last in
         rw (add-one v) (as_recorded same (recorded_more r z))
@@ -127,8 +127,8 @@ module _ (frame : Frame) (formulas effects : List ℕ) (e : ℕ) where
         over = λ q w.
             x.over refl
             (within_before
-            (each_grows (changes_of (becoming frame) (effect_tree frame formulas effects e)) (held at before)
-            (λ k. steady_changes (becoming frame) (steady_becoming frame) (effect_tree frame formulas effects e) k) v n h)
+            (each_grows (changes_of frame.variables (effect_tree frame formulas effects e)) (held at before)
+            (λ k. steady_changes frame.variables (effect_tree frame formulas effects e) k) v n h)
             w);
       }
 
@@ -222,7 +222,7 @@ module _ {frame : Frame} {formulas effects notes : List ℕ} {e : ℕ} {at : Siz
         }
 
     module _ {after : Store} {s3 : List ℕ} {there : Size} (c : Change)
-        (y : Makes (changes_of (becoming frame) (effect_tree frame formulas effects e) v) frame formulas effects here mid after s3 c.full there (made v c))
+        (y : Makes (changes_of frame.variables (effect_tree frame formulas effects e) v) frame formulas effects here mid after s3 c.full there (made v c))
       where
         pub walking-stops :
             {n : List ℕ} {r : Tally}
@@ -280,7 +280,7 @@ module _ (frame : Frame) (formulas effects : List ℕ) (p e : ℕ) {at : Size} {
             x.builds.over q
             (within_before
             ((steady_each frame.variables
-            (λ k. steady_changes (becoming frame) (steady_becoming frame) (effect_tree frame formulas effects e) k)).grow g.st)
+            (λ k. steady_changes frame.variables (effect_tree frame formulas effects e) k)).grow g.st)
             w);
       }
 

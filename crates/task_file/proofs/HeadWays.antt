@@ -45,12 +45,12 @@ module _ (file : List ℕ) (some : 0 < length file) where
       unfolding head_read mapped_read next kept
       upper-refused e = rw (byte_here file 0 some, lt-ltb (get_or file 0 0) 64 clear, six_split (get_or file 0 0) (drop 1 file), lower, e)
 
-      pub head_there :
+      pub head-there :
           {d e f : ℕ} {rest' : List ℕ}
           → fields_read zeros (get_or file 0 0 / 8) rest ≡ parsed (d ∷ e ∷ f ∷ []) rest'
           → head_read file ≡ parsed (record { variables = a; twins = b; formulas = c; effects = d; operators = e; goal = f }) rest'
       unfolding head_read mapped_read next kept
-      head_there e = rw (byte_here file 0 some, lt-ltb (get_or file 0 0) 64 clear, six_split (get_or file 0 0) (drop 1 file), lower, e)
+      head-there e = rw (byte_here file 0 some, lt-ltb (get_or file 0 0) 64 clear, six_split (get_or file 0 0) (drop 1 file), lower, e)
 
 -- the head's own numbers
 module _ (l : Lengths) (file : List ℕ) where

@@ -7,4 +7,3 @@ mod planning;
 mod reading;
 mod running;
 mod tables;
-mod translating;

@@ -6,19 +6,19 @@ use mathlib.Core.Bool.{Bool, true, false, true≢false}
 use mathlib.Core.List.{List}
 use lib.ListN.{length}
 use borrow.Author.Tests.{eq-eqb, ne_eqb}
-use Rattle.normal_form.specs.Builder.{Got, Build, give, bind, join, Polarity, plain, negated}
+use Rattle.normal_form.specs.Builder.{Got, Build, give, bind, join, plain, negated}
 use Rattle.normal_form.specs.Growth.{Steady}
-use Rattle.normal_form.specs.Conditions.{Becoming, condition}
+use Rattle.normal_form.specs.Conditions.{condition}
 use Rattle.normal_form.specs.Operators.{Changes, deletes_of, changes_of}
 use Rattle.normal_form.proofs.Growth.{steady_give, steady_bind, steady_join}
 use Rattle.normal_form.proofs.Steady.{steady_deletes, steady_condition}
-use Rattle.task.specs.Semantics.{Formula, Effect, sets, clears}
+use Rattle.task.specs.Semantics.{Effect, sets, clears}
 use Rattle.formula_builder.specs.declared.Frame.{Frame}
 use Rattle.formula_builder.specs.declared.Size.{Size}
 use Rattle.formula_builder.specs.declared.Step.{Step}
 use Rattle.formula_builder.specs.Inner.Held.{Store, held, size_of, stepped, JoinReady, Builds}
 use Rattle.formula_builder.proofs.Steps.{builds_stands, within_before}
-use Rattle.images.specs.Inner.Images.{becoming, Memo, Images}
+use Rattle.images.specs.Inner.Images.{Memo, Images}
 use Rattle.images.proofs.Memos.{done_grows}
 use Rattle.conditions.specs.declared.Target.{Target}
 use Rattle.conditions.specs.Inner.Conditions.{effect_tree, EffectMemo, Noted, Asks, Conditions}
@@ -192,35 +192,35 @@ module _ {notes : List ℕ} (frame : Frame) (formulas effects : List ℕ) (at : 
   tree = effect_tree frame formulas effects e
 
   stays :
-      deletes_of (becoming frame) tree v a d ≡ give d
-      → Conditions (deletes_of (becoming frame) tree v a d) frame formulas effects notes at before before scratch (stepped at.rows at.twins d)
+      deletes_of frame.variables tree v a d ≡ give d
+      → Conditions (deletes_of frame.variables tree v a d) frame formulas effects notes at before before scratch (stepped at.rows at.twins d)
   stays q = conditions_as q (given_row d s.stands s.row)
 
   pub never_set :
       a ≡ 0
-      → Conditions (deletes_of (becoming frame) (effect_tree frame formulas effects e) v a d) frame formulas effects notes at before before scratch (stepped at.rows at.twins d)
+      → Conditions (deletes_of frame.variables (effect_tree frame formulas effects e) v a d) frame formulas effects notes at before before scratch (stepped at.rows at.twins d)
   unfolding deletes_of tree
   never_set h = stays (rw (eq-eqb a 0 h))
 
   pub never_cleared :
       (a ≡ 0 → ⊥)
       → d ≡ 0
-      → Conditions (deletes_of (becoming frame) (effect_tree frame formulas effects e) v a d) frame formulas effects notes at before before scratch (stepped at.rows at.twins d)
+      → Conditions (deletes_of frame.variables (effect_tree frame formulas effects e) v a d) frame formulas effects notes at before before scratch (stepped at.rows at.twins d)
   unfolding deletes_of tree
   never_cleared g h = stays (rw (ne_eqb a 0 g, eq-eqb d 0 h))
 
   module _ (g : a ≡ 0 → ⊥) (h : d ≡ 0 → ⊥) {notes' : List ℕ} {after : Store} {s2 : List ℕ} {n : Step}
-      (x : Conditions (condition (becoming frame) negated (sets v) (effect_tree frame formulas effects e)) frame formulas effects notes' at before after s2 n)
+      (x : Conditions (condition frame.variables negated (sets v) (effect_tree frame formulas effects e)) frame formulas effects notes' at before after s2 n)
     where
       freed :
-          deletes_of (becoming frame) tree v a d
-          ≡ bind (condition (becoming frame) negated (sets v) (effect_tree frame formulas effects e)) (λ c. join plain d c)
+          deletes_of frame.variables tree v a d
+          ≡ bind (condition frame.variables negated (sets v) (effect_tree frame formulas effects e)) (λ c. join plain d c)
       unfolding deletes_of tree
       freed = rw (ne_eqb a 0 g, ne_eqb d 0 h)
 
       pub negated-full :
           n.full ≡ true
-          → Conditions (deletes_of (becoming frame) (effect_tree frame formulas effects e) v a d) frame formulas effects notes' at before after s2 n
+          → Conditions (deletes_of frame.variables (effect_tree frame formulas effects e) v a d) frame formulas effects notes' at before after s2 n
       unfolding tree
       negated-full q = conditions_as freed (conditions_stop (λ c. join plain d c) (λ c. steady_join plain d c) x q)
 
@@ -238,7 +238,7 @@ module _ {notes : List ℕ} (frame : Frame) (formulas effects : List ℕ) (at : 
           {last : Store} {z : Step}
           → n.full ≡ false
           → Builds (join plain d n.row) frame (size_of n) after last z
-          → Conditions (deletes_of (becoming frame) (effect_tree frame formulas effects e) v a d) frame formulas effects notes' at before last s2 z
+          → Conditions (deletes_of frame.variables (effect_tree frame formulas effects e) v a d) frame formulas effects notes' at before last s2 z
       unfolding tree
       negated-joined q b =
           conditions_as freed
@@ -246,45 +246,45 @@ module _ {notes : List ℕ} (frame : Frame) (formulas effects : List ℕ) (at : 
           (conditions_leaf (steady_join plain d n.row) (x.noted q) (x.memo q) (x.effect_memo q) b))
 
 -- A, D, N.
-module _ (becomes : Becoming) (steady : (p : Polarity) (f : Formula) → Steady (becomes p f)) (v : ℕ) (effect : Effect) where
+module _ (n v : ℕ) (effect : Effect) where
   last_of : ℕ → ℕ → Build Changes
   last_of a d =
-      bind (deletes_of becomes effect v a d) (λ k. give (record { variable = v; adds = a; deletes = k }))
+      bind (deletes_of n effect v a d) (λ k. give (record { variable = v; adds = a; deletes = k }))
 
   steady_last : (a d : ℕ) → Steady (last_of a d)
   unfolding last_of
-  steady_last a d = steady_bind (steady_deletes becomes steady effect v a d) (λ k. steady_give _)
+  steady_last a d = steady_bind (steady_deletes n effect v a d) (λ k. steady_give _)
 
   after_set : ℕ → Build Changes
-  after_set a = bind (condition becomes plain (clears v) effect) (λ d. last_of a d)
+  after_set a = bind (condition n plain (clears v) effect) (λ d. last_of a d)
 
   steady_after : (a : ℕ) → Steady (after_set a)
   unfolding after_set
-  steady_after a = steady_bind (steady_condition becomes steady plain (clears v) effect) (λ d. steady_last a d)
+  steady_after a = steady_bind (steady_condition n plain (clears v) effect) (λ d. steady_last a d)
 
   module _ {frame : Frame} {formulas effects notes : List ℕ} {at : Size} {before mid : Store} {s2 : List ℕ} {a : Step}
-      (x : Conditions (condition becomes plain (sets v) effect) frame formulas effects notes at before mid s2 a) where
+      (x : Conditions (condition n plain (sets v) effect) frame formulas effects notes at before mid s2 a) where
     pub set_full :
         {last : Size} {c : Changes}
         → a.full ≡ true
-        → Makes (changes_of becomes effect v) frame formulas effects at before mid s2 true last c
+        → Makes (changes_of n effect v) frame formulas effects at before mid s2 true last c
     unfolding changes_of after_set last_of
     set_full q = makes_stop after_set (makes_row x) steady_after q
 
     module _ (q : a.full ≡ false) {notes' : List ℕ} {after : Store} {s3 : List ℕ} {d : Step}
-        (y : Conditions (condition becomes plain (clears v) effect) frame formulas effects notes' (size_of a) mid after s3 d) where
-      pub clear_full :
+        (y : Conditions (condition n plain (clears v) effect) frame formulas effects notes' (size_of a) mid after s3 d) where
+      pub clear-full :
           {last : Size} {c : Changes}
           → d.full ≡ true
-          → Makes (changes_of becomes effect v) frame formulas effects at before after s3 true last c
+          → Makes (changes_of n effect v) frame formulas effects at before after s3 true last c
       unfolding changes_of after_set last_of
-      clear_full g = makes_bind after_set (makes_row x) q (makes_stop (last_of a.row) (makes_row y) (steady_last a.row) g)
+      clear-full g = makes_bind after_set (makes_row x) q (makes_stop (last_of a.row) (makes_row y) (steady_last a.row) g)
 
       pub change_made :
           {notes'' : List ℕ} {last : Store} {s4 : List ℕ} {k : Step}
           → d.full ≡ false
-          → Conditions (deletes_of becomes effect v a.row d.row) frame formulas effects notes'' (size_of d) after last s4 k
-          → Makes (changes_of becomes effect v) frame formulas effects at before last s4 k.full (size_of k)
+          → Conditions (deletes_of n effect v a.row d.row) frame formulas effects notes'' (size_of d) after last s4 k
+          → Makes (changes_of n effect v) frame formulas effects at before last s4 k.full (size_of k)
           (record { variable = v; adds = a.row; deletes = k.row })
       unfolding changes_of after_set last_of
       change_made g z =

@@ -1,7 +1,6 @@
 // D and N of one variable.
 ghost use Rattle.normal_form.specs.Operators.{deletes_of};
 ghost use Rattle.formula_builder.specs.Inner.Held.{store, sized, stepped, framed};
-ghost use Rattle.images.specs.Inner.Images.{becoming};
 ghost use Rattle.conditions.specs.Inner.Conditions.{effect_tree, Conditions};
 ghost use Rattle.variable_changes.specs.Inner.Stands.{Deletes};
 
@@ -17,7 +16,7 @@ pub fn deletes(
     e: usize,
     v: u16,
     c: Change,
-    frame: &[usize; 6],
+    frame: &[usize; 5],
     rows: &mut usize,
     twins: &mut usize,
     table: &mut [u16],
@@ -25,7 +24,7 @@ pub fn deletes(
     scratch: &mut [u16],
 ) -> u16
     requires { Deletes (framed frame.now) formulas.now effects.now notes.old (sized rows.old twins.old) (store table.old originals.old) scratch.old e v c.deletes }
-    ensures { Conditions (deletes_of (becoming (framed frame.now)) (effect_tree (framed frame.now) formulas.now effects.now e) v c.adds c.deletes) (framed frame.now) formulas.now effects.now notes.new (sized rows.old twins.old) (store table.old originals.old) (store table.new originals.new) scratch.new (stepped rows.new twins.new result) }
+    ensures { Conditions (deletes_of (framed frame.now).variables (effect_tree (framed frame.now) formulas.now effects.now e) v c.adds c.deletes) (framed frame.now) formulas.now effects.now notes.new (sized rows.old twins.old) (store table.old originals.old) (store table.new originals.new) scratch.new (stepped rows.new twins.new result) }
 {
     if c.adds == 0 {
         return c.deletes;

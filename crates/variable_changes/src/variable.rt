@@ -2,7 +2,6 @@
 ghost use Rattle.std.specs.Prelude.{◌≡◌, true, false, ◌<◌};
 ghost use Rattle.normal_form.specs.Operators.{changes_of};
 ghost use Rattle.formula_builder.specs.Inner.Held.{store, sized, framed};
-ghost use Rattle.images.specs.Inner.Images.{becoming};
 ghost use Rattle.conditions.specs.Inner.Conditions.{effect_tree};
 ghost use Rattle.variable_changes.specs.Inner.Stands.{StandsAt, Makes, Leaves, made};
 
@@ -29,7 +28,7 @@ pub fn change_of(
     notes: &mut [u16],
     e: usize,
     v: u16,
-    frame: &[usize; 6],
+    frame: &[usize; 5],
     rows: &mut usize,
     twins: &mut usize,
     table: &mut [u16],
@@ -37,7 +36,7 @@ pub fn change_of(
     scratch: &mut [u16],
 ) -> Change
     requires { StandsAt (framed frame.now) formulas.now effects.now notes.old (sized rows.old twins.old) (store table.old originals.old) scratch.old e × (v < (framed frame.now).variables) }
-    ensures { Makes (changes_of (becoming (framed frame.now)) (effect_tree (framed frame.now) formulas.now effects.now e) v) (framed frame.now) formulas.now effects.now (sized rows.old twins.old) (store table.old originals.old) (store table.new originals.new) scratch.new result.full (sized rows.new twins.new) (made v result) × Leaves result.full (framed frame.now) formulas.now effects.now notes.new (sized rows.new twins.new) (store table.new originals.new) }
+    ensures { Makes (changes_of (framed frame.now).variables (effect_tree (framed frame.now) formulas.now effects.now e) v) (framed frame.now) formulas.now effects.now (sized rows.old twins.old) (store table.old originals.old) (store table.new originals.new) scratch.new result.full (sized rows.new twins.new) (made v result) × Leaves result.full (framed frame.now) formulas.now effects.now notes.new (sized rows.new twins.new) (store table.new originals.new) }
 {
     let set = Target {
         clear: false,

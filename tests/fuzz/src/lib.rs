@@ -1,10 +1,8 @@
-//! libFuzzer's target. An input is a task file, and the tables of a
-//! finite-domain task too; it chooses the buffer lengths, states and sequences
-//! that it is tried with.
+//! libFuzzer's target. An input is a task file; the file chooses the buffer
+//! lengths, states and sequences that it is tried with.
 
 use saqwillo_tests::entry_trial;
 use saqwillo_tests::random::Random;
-use saqwillo_tests::translate_trial;
 
 /// # Safety
 /// libFuzzer passes `size` readable bytes.
@@ -17,9 +15,7 @@ pub unsafe extern "C" fn LLVMFuzzerTestOneInput(data: *const u8, size: usize) ->
     let seed = file.iter().fold(size as u64, |seed, &byte| {
         seed.rotate_left(5) ^ u64::from(byte)
     });
-    let mut random = Random::new(seed);
-    let verdict = entry_trial::file(&mut random, file);
-    if let Err(dump) = verdict.and_then(|()| translate_trial::tables(&mut random, file)) {
+    if let Err(dump) = entry_trial::file(&mut Random::new(seed), file) {
         eprintln!("{dump}");
         std::process::abort();
     }

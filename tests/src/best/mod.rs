@@ -8,10 +8,8 @@ pub mod compile;
 pub mod kept;
 pub mod print;
 pub mod read;
-pub mod row_table;
 pub mod rules;
 pub mod run;
-pub mod translate;
 pub mod write;
 
 use crate::check;

@@ -51,8 +51,7 @@ impl Output<'_> {
     }
 }
 
-/// Tables that were checked, or built; after 20 the output is dirty.
-pub(super) fn fill(rows: &Rows, out: &mut [u8]) -> Result<usize, Refusal> {
+fn fill(rows: &Rows, out: &mut [u8]) -> Result<usize, Refusal> {
     let mut output = Output { out, at: 0 };
     output.fields(0, &rows.head.words(), &[0; 6])?;
     for group in rows.initial.chunks(8) {

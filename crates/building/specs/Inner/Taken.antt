@@ -48,11 +48,10 @@ pub record Begun (frame : Frame) (before table : List ℕ) (p : Progress) : Type
   pub answer : p.full ≡ true → p ≡ stopped 0
   pub untouched : p.full ≡ true → table ≡ before
 
--- The source keeps the rules, formulas become their images, scratch is all 0, and there are no twins.
+-- The source keeps the rules, scratch is all 0, and there are no twins.
 pub record Blank (frame : Frame) (formulas effects originals scratch : List ℕ) : Type 0 where
   pub source : Source frame formulas scratch
   pub effect_source : EffectSource frame effects scratch
-  pub imaged : frame.copied ≡ 0
   pub twins : frame.twins ≤ length originals
   pub variables : frame.variables + frame.twins ≤ 512
   pub blank_originals : Zeros originals

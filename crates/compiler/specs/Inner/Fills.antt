@@ -62,10 +62,9 @@ lent_of g =
     })
     g.initial [] g.formulas g.effects g.operators
 
--- The source passes, and formulas become their images; all lent tables are 0, and have the room that is counted.
+-- The source passes; all lent tables are 0, and have the room that is counted.
 pub record Begins (g : Counted) (x : Tables) : Type 0 where
   pub passes : refusal (lent_of g) ≡ 0
-  pub imaged : g.frame.copied ≡ 0
   pub blank : Blanked x x
   pub memo : 2 * g.frame.formulas + 2 * g.frame.effects ≤ length x.scratch
   pub rows_space : 3 * g.frame.rows ≤ length x.formulas

@@ -34,15 +34,7 @@ pub record MostTwins (variables values originals r : ℕ) : Type 0 where
 abbrev pub counts_by : Head → (rows twins room : ℕ) → Counts
 counts_by h rows twins room =
     record {
-      frame =
-          record {
-            variables = h.variables;
-            formulas = h.formulas;
-            effects = h.effects;
-            rows = rows;
-            twins = twins;
-            copied = 0;
-          };
+      frame = record { variables = h.variables; formulas = h.formulas; effects = h.effects; rows = rows; twins = twins };
       operators = h.operators;
       goal = h.goal;
       room = room;
@@ -66,7 +58,6 @@ with_rows c rows =
             effects = c.frame.effects;
             rows = rows;
             twins = c.frame.twins;
-            copied = c.frame.copied;
           };
       operators = c.operators;
       goal = c.goal;

@@ -11,7 +11,7 @@ use Rattle.formula_builder.specs.declared.Frame.{Frame}
 use Rattle.formula_builder.specs.declared.Size.{Size}
 use Rattle.formula_builder.specs.declared.Step.{Step}
 use Rattle.formula_builder.specs.Inner.Held.{Store, held, size_of, side, Ready, Builds}
-use Rattle.images.specs.Inner.Images.{source_rows, becoming, Known, Memo, Source}
+use Rattle.images.specs.Inner.Images.{source_rows, Known, Memo, Source}
 use Rattle.atom_sets.specs.Inner.Sets.{sets_end, lacks}
 use Rattle.conditions.specs.declared.Target.{Target}
 
@@ -48,7 +48,7 @@ effect_tree frame formulas effects e = effect_of (source_rows frame formulas) (e
 -- the condition of effect e
 unfoldable pub condition_at : Frame → List ℕ → List ℕ → Target → ℕ → Build ℕ
 condition_at frame formulas effects t e =
-    condition (becoming frame) (side t.negated) (atom_of t) (effect_tree frame formulas effects e)
+    condition frame.variables (side t.negated) (atom_of t) (effect_tree frame formulas effects e)
 
 -- the tag of a target
 unfoldable pub tag : Target → ℕ

@@ -17,17 +17,10 @@ abbrev pub side : Bool → Polarity
 side false = plain
 side true = negated
 
--- a frame by its six numbers
+-- a frame by its five numbers
 abbrev pub framed : List ℕ → Frame
 framed w =
-    record {
-      variables = get_or w 0 0;
-      formulas = get_or w 1 0;
-      effects = get_or w 2 0;
-      rows = get_or w 3 0;
-      twins = get_or w 4 0;
-      copied = get_or w 5 0;
-    }
+    record { variables = get_or w 0 0; formulas = get_or w 1 0; effects = get_or w 2 0; rows = get_or w 3 0; twins = get_or w 4 0 }
 
 -- The two tables that building writes: formula words, and originals of twins.
 pub record Store : Type 0 where

@@ -1,4 +1,4 @@
--- What a formula becomes in the table that is built, what the memo of images holds, and what the code that builds images asks and answers.
+-- What the memo of images holds, and what the code that builds images asks and answers.
 use Rattle.std.specs.Prelude.{ℕ, ◌+◌, ◌-◌, ◌*◌, ◌≤◌, ◌<◌, ◌≡◌, Bool, true, false, cond, not, List, length, get_or, eqb}
 use Rattle.task.specs.Bounded.{upto}
 use Rattle.task.specs.Table.{Row, row_at}
@@ -7,8 +7,6 @@ use Rattle.task.specs.Tree.{formula_of}
 use Rattle.task.specs.Inner.Rows.{FormulasDown}
 use Rattle.normal_form.specs.Builder.{St, Build, Polarity, plain, negated, give, pair}
 use Rattle.normal_form.specs.Image.{literal, image}
-use Rattle.normal_form.specs.Conditions.{Becoming}
-use Rattle.normal_form.specs.Copy.{itself}
 use Rattle.formula_builder.specs.declared.Frame.{Frame}
 use Rattle.formula_builder.specs.declared.Size.{Size}
 use Rattle.formula_builder.specs.declared.Step.{Step}
@@ -22,13 +20,9 @@ source_rows frame formulas = upto frame.formulas (row_at formulas)
 unfoldable pub tree : Frame → List ℕ → ℕ → Formula
 tree frame formulas i = formula_of (source_rows frame formulas) i
 
--- what a formula becomes, by the frame: its image (negated, its negated image), or itself
-unfoldable pub becoming : Frame → Becoming
-becoming frame = cond (eqb frame.copied 0) (image frame.variables) itself
-
--- what formula i becomes
+-- the image of formula i; negated, its negated image
 unfoldable pub image_at : Frame → List ℕ → Polarity → ℕ → Build ℕ
-image_at frame formulas p i = becoming frame p (tree frame formulas i)
+image_at frame formulas p i = image frame.variables p (tree frame formulas i)
 
 -- row i's operands, each on its side, and their join, "and" or "or"
 unfoldable pub pair_at : Frame → List ℕ → ℕ → Bool → Bool → Bool → Build ℕ
@@ -60,16 +54,13 @@ pub record Known (m : Build ℕ) (s : St) (r : ℕ) : Type 0 where
   pub again : m s ≡ record { value = r; st = s }
   pub below : r < length s.rows
 
--- Each word of the memo that is not 0 is the row that building gives now, plus 1. Where formulas are taken as they stand no word is 0: they were all
--- copied before, and the code that builds images has nothing to build.
+-- Each word of the memo that is not 0 is the row that building gives now, plus 1.
 pub record Memo (frame : Frame) (formulas scratch : List ℕ) (s : St) : Type 0 where
   pub known :
       (p : Polarity) (i r : ℕ)
       → i < frame.formulas
       → get_or scratch (memo_place frame p i) 0 ≡ r + 1
       → Known (image_at frame formulas p i) s r
-  pub full :
-      (frame.copied ≡ 0 → ⊥) → (p : Polarity) (i : ℕ) → i < frame.formulas → get_or scratch (memo_place frame p i) 0 ≡ 0 → ⊥
 
 -- The source keeps the rules of formulas, and the scratch has two words for each.
 pub record Source (frame : Frame) (formulas scratch : List ℕ) : Type 0 where
@@ -83,11 +74,6 @@ pub record Asks (frame : Frame) (formulas : List ℕ) (at : Size) (before : Stor
   pub ready : Ready frame at before
   pub memo : Memo frame formulas scratch (held at before)
   pub formula : i < frame.formulas
-
--- for a row that the memo does not have: formulas become their images
-pub record AsksBuilt (frame : Frame) (formulas : List ℕ) (at : Size) (before : Store) (scratch : List ℕ) (i : ℕ) : Type 0 where
-  pub asks : Asks frame formulas at before scratch i
-  pub imaged : frame.copied ≡ 0
 
 -- for a row whose two words name formulas
 pub record AsksPair (frame : Frame) (formulas : List ℕ) (at : Size) (before : Store) (scratch : List ℕ) (i : ℕ) : Type 0 where

@@ -5,7 +5,7 @@ use Rattle.normal_form.specs.Operators.{Changes, changes_of}
 use Rattle.formula_builder.specs.declared.Frame.{Frame}
 use Rattle.formula_builder.specs.declared.Size.{Size}
 use Rattle.formula_builder.specs.Inner.Held.{Store, held}
-use Rattle.images.specs.Inner.Images.{becoming, image_at}
+use Rattle.images.specs.Inner.Images.{image_at}
 use Rattle.conditions.specs.Inner.Conditions.{effect_tree}
 use Rattle.task.specs.Table.{operator_at}
 use Rattle.variable_changes.specs.Inner.Stands.{StandsAt, Reaches}
@@ -15,7 +15,7 @@ use Rattle.operators.specs.declared.Tally.{Tally}
 
 -- the changes of the variables below v
 unfoldable pub all_changes : Frame → List ℕ → List ℕ → ℕ → ℕ → Build (List Changes)
-all_changes frame formulas effects e v = each v (changes_of (becoming frame) (effect_tree frame formulas effects e))
+all_changes frame formulas effects e v = each v (changes_of frame.variables (effect_tree frame formulas effects e))
 
 -- the precondition, then all changes
 unfoldable pub operator_built : Frame → List ℕ → List ℕ → ℕ → ℕ → Build (List Changes)

@@ -1,7 +1,7 @@
 //! Compares the library's times with those of the other implementation in
 //! its quickest form: one table, ratios of medians. The first argument picks
-//! one group: files, runs, planning, compiling, translating, program or hostile, of
-//! which the table has the slowest file alone. Beside the table:
+//! one group: files, runs, planning, compiling, program or hostile, of which the table
+//! has the slowest file alone. Beside the table:
 //! `worst [FAMILY]` has the files made to be slow, `nets` nets and chains of
 //! effect rows at many counts, `search [SEED [SECONDS]]` looks for more,
 //! `counts` makes each call of the table once, for callgrind.
@@ -25,8 +25,6 @@ mod runs;
 mod tasks;
 #[allow(dead_code)]
 mod times;
-#[cfg(feature = "translate")]
-mod translating;
 #[cfg(feature = "compiling")]
 mod worst;
 
@@ -66,10 +64,6 @@ fn table(report: Report, group: Option<&str>) -> std::io::Result<()> {
     #[cfg(feature = "planning")]
     if asked("planning") {
         planning::compare(report);
-    }
-    #[cfg(feature = "translate")]
-    if asked("translating") {
-        translating::compare(report);
     }
     if asked("program") {
         program::compare(report)?;

@@ -24,8 +24,6 @@ mod deep_rows;
 mod demand_3;
 #[cfg(feature = "reading")]
 mod file_order;
-#[cfg(feature = "translating")]
-mod lent_translating;
 #[cfg(feature = "operator_records")]
 mod operator_records;
 #[cfg(feature = "planning")]
@@ -38,8 +36,6 @@ mod running;
 mod shared_cores;
 #[cfg(feature = "running")]
 mod stepping;
-#[cfg(feature = "translate")]
-mod translating;
 #[cfg(feature = "reading")]
 mod writing;
 
@@ -76,9 +72,5 @@ fn main() {
     tests.extend(planning::tests());
     #[cfg(feature = "operator_records")]
     tests.extend(operator_records::tests());
-    #[cfg(feature = "translating")]
-    tests.extend(lent_translating::tests());
-    #[cfg(feature = "translate")]
-    tests.extend(translating::tests());
     std::process::exit(saqwillo_tests::harness::run(&tests));
 }

@@ -1,12 +1,10 @@
 //! Writes the example task files, and what the compiling program prints for
-//! each, into a folder: `example_files DIR`. Of a finite-domain task it writes
-//! the tables, and what the program prints for the translated task's file.
+//! each, into a folder: `example_files DIR`.
 
 use std::path::Path;
 
 use saqwillo_tests::examples;
 use saqwillo_tests::file::file_of;
-use saqwillo_tests::finite;
 use saqwillo_tests::print::program;
 
 fn main() -> std::io::Result<()> {
@@ -26,9 +24,5 @@ fn main() -> std::io::Result<()> {
         std::fs::write(folder.join(name).with_extension("out"), program(&file))?;
         std::fs::write(folder.join(name).with_extension("task"), file)?;
     }
-    let task = finite::examples::status();
-    let translated = finite::translate::finished_task(&task).expect("inside the limits");
-    let file = file_of(&translated.head, &translated.tables);
-    std::fs::write(folder.join("status.out"), program(&file))?;
-    std::fs::write(folder.join("status.tables"), finite::entry::bytes(&task))
+    Ok(())
 }

@@ -12,7 +12,6 @@ use saqwillo_tests::deep::{deep_task, EFFECTS, FORMULAS};
 use saqwillo_tests::entries::MOST_FILE_BYTES;
 use saqwillo_tests::examples;
 use saqwillo_tests::file::file_of;
-use saqwillo_tests::finite;
 use saqwillo_tests::generate::{self, Shape};
 use saqwillo_tests::harness::{self, Test, Trial, Verdict};
 use saqwillo_tests::print::program;
@@ -28,7 +27,6 @@ fn main() {
         test("stored files", stored_files),
         test("random files", random_files),
         test("large files", large_files),
-        test("translated files", translated_files),
         test("deepest files", deepest_files),
         test("empty input", empty_input),
         test("long inputs", long_inputs),
@@ -110,32 +108,6 @@ fn large_files(trial: &mut Trial) -> Verdict {
         examples::many_rules(&[512, 512, 341]),
     ] {
         agree(trial, &file_of(&task.head, &task.tables), 70_000)?;
-    }
-    Ok(())
-}
-
-/// The file of a translated task, as the C entry gives it.
-#[cfg(feature = "translate")]
-fn translated(tables: &[u8]) -> Result<Option<Vec<u8>>, String> {
-    saqwillo_tests::translate_trial::library_file(tables)
-}
-
-/// As the other implementation gives it.
-#[cfg(not(feature = "translate"))]
-fn translated(tables: &[u8]) -> Result<Option<Vec<u8>>, String> {
-    let given = finite::entry::translate(tables, MOST_FILE_BYTES, 4);
-    let length = usize::from(u16::from_le_bytes([given.result[0], given.result[1]]));
-    Ok((given.number == 0).then(|| given.out[..length].to_vec()))
-}
-
-/// Finite-domain tasks, through their translation.
-fn translated_files(trial: &mut Trial) -> Verdict {
-    let mut all = vec![finite::examples::status(), finite::damage::base()];
-    all.extend((0..200).map(|_| finite::generate::any(&mut trial.random)));
-    for task in all {
-        if let Some(file) = translated(&finite::entry::bytes(&task))? {
-            agree(trial, &file, 70_000)?;
-        }
     }
     Ok(())
 }

@@ -7,7 +7,6 @@ mod cheapest;
 mod compiling;
 mod examples;
 mod files;
-mod finite;
 mod operator_records;
 mod runs;
 
@@ -22,6 +21,5 @@ fn main() {
     tests.extend(best::tests());
     tests.extend(cheapest::tests());
     tests.extend(operator_records::tests());
-    tests.extend(finite::tests());
     std::process::exit(harness::run(&tests));
 }

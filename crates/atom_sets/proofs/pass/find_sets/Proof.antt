@@ -33,8 +33,8 @@ loop-again : tie.Need-loop-preserved invariant-loop decreases-loop
 loop-again c =
     let at-loop = c.before.before.before.before.before.before in
     let at_pre = at-loop.before.before.before in (
-      c.before.before.set_of.auto.1.1.1.0 ∙ at-loop.loop.invariant.0,
-      finding_more at_pre.requires (omega arith) at-loop.loop.invariant.1 c.before.before.set_of.ensures,
+      c.before.before.set-of.auto.1.1.1.0 ∙ at-loop.loop.invariant.0,
+      finding_more at_pre.requires (omega arith) at-loop.loop.invariant.1 c.before.before.set-of.ensures,
     )
 
 -- src/pass.rt:111:1

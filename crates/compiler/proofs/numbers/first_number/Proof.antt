@@ -8,7 +8,7 @@ use Rattle.task.proofs.check.check.Reads as check-reads
 use mathlib.Core.Path.{sym, ◌∙◌}
 use Rattle.task.specs.Table.{lent}
 use Rattle.compiler.specs.Inner.Sizes.{room_by}
-use Rattle.compiler.proofs.Refusing.{by_the_check, some_twins, short_scratch, short-initial, short-operators, short-effects, no_number}
+use Rattle.compiler.proofs.Refusing.{by_the_check, some_twins, short-scratch, short-initial, short-operators, short-effects, no_number}
 
 returns : tie.Need-returns
 returns c =
@@ -32,7 +32,7 @@ returns-3 c =
     let a = at-args.args in
     let l = lent a.head a.initial.now a.twins.now a.formulas.now a.effects.now a.operators.now in
     let passes = sym at-check.check.ensures ∙ at-if1.if1.false in
-    short_scratch l (room_by a.lengths) passes at-if2.if2.false c.if3.true
+    short-scratch l (room_by a.lengths) passes at-if2.if2.false c.if3.true
 
 returns-4 : tie.Need-returns-4
 returns-4 c =

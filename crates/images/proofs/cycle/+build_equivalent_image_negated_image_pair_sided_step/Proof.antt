@@ -39,7 +39,7 @@ use mathlib.Core.Bool.{true, false, not}
 use Rattle.normal_form.specs.Builder.{plain, negated}
 use Rattle.formula_builder.specs.Inner.Held.{side, framed}
 use Rattle.images.proofs.Rows.{negated_operand, of_not, of_pair, of_equivalent}
-use Rattle.images.proofs.Memos.{place_within, images_as, left_full, right_full, joined, images_known, asks_built, images_noted}
+use Rattle.images.proofs.Memos.{place_within, images_as, left_full, right_full, joined, images_known, images_noted}
 use Rattle.images.proofs.Steps.{join_asks, equivalent_joins, asks_negated, asks_pair, leaf_ready, leaf_done, left_lower, right_lower, asks_left, asks_right, pair_joins, asks_second}
 
 abbrev μ-build : Measures 7 build-kinds.ps ℕ
@@ -111,8 +111,8 @@ build-mul-scratch t c =
     omega (
       arith,
       c.word_of.ensures,
-      place_within (framed start.args.frame.now) (side start.args.not) start.args.i start.requires.1.asks.formula,
-      start.requires.1.asks.source.limit,
+      place_within (framed start.args.frame.now) (side start.args.not) start.args.i start.requires.1.formula,
+      start.requires.1.source.limit,
     )
 
 build-slice-write-scratch : (t : ℕ) → build-lts.Need-slice-write-scratch (step-below t, step.Post, word-of-reads.Asked, word-of-reads.Learnt) (build-at t) build.Post
@@ -122,8 +122,8 @@ build-slice-write-scratch t c =
     omega (
       arith,
       c.word_of.ensures,
-      place_within (framed start.args.frame.now) (side start.args.not) start.args.i start.requires.1.asks.formula,
-      start.requires.1.asks.source.memo,
+      place_within (framed start.args.frame.now) (side start.args.not) start.args.i start.requires.1.formula,
+      start.requires.1.source.memo,
       made.step.auto.1.1.1.1.1.1.1.1.0,
     )
 
@@ -132,7 +132,7 @@ build-returns-2 t c =
     let made = c.before.before.before.before.before.before.before.before in
     let start = made.before.before.before.before.before.before.before.before.before.before in
     rw c.word_of.ensures
-    (images_noted (side start.args.not) start.requires.1.asks.formula (omega (arith, start.requires.1.asks.source.memo, made.step.auto.1.1.1.1.1.1.1.1.0))
+    (images_noted (side start.args.not) start.requires.1.formula (omega (arith, start.requires.1.source.memo, made.step.auto.1.1.1.1.1.1.1.1.0))
     made.step.ensures
     (ne_eqb _ 65535 c.before.if1.false))
 
@@ -511,22 +511,10 @@ image-returns t c =
     let start = c.before.before.before.before.before.before in
     images_known plain start.requires.1 refl c.if1.true
 
-image-build-requires : (t : ℕ) → image-lts.Need-build-requires (build-below t, build.Post) (image_at t) image.Post
-image-build-requires t c κs =
-    let one = c.before.before.before.before.before in
-    let start = one.before.before.before.before.before.before in
-    (omega (arith, start.requires.0), asks_built plain start.requires.1 refl one.if1.false)
-
 negated-image-returns : (t : ℕ) → negated-image-lts.Need-returns (build-below t, build.Post) (negated-image-at t) negated-image.Post
 negated-image-returns t c =
     let start = c.before.before.before.before.before.before.before in
     images_known negated start.requires.1 refl c.if1.true
-
-negated-image-build-requires : (t : ℕ) → negated-image-lts.Need-build-requires (build-below t, build.Post) (negated-image-at t) negated-image.Post
-negated-image-build-requires t c κs =
-    let one = c.before.before.before.before.before in
-    let start = one.before.before.before.before.before.before.before in
-    (omega (arith, start.requires.0), asks_built negated start.requires.1 refl one.if1.false)
 
 pair-sided-requires : (t : ℕ) → pair-lts.Need-sided-requires (read-row-reads.Asked, read-row-reads.Learnt, sided-below t, sided.Post, join-reads.Asked, join-reads.Learnt) (pair_at t) pair.Post
 pair-sided-requires t c κs =
@@ -616,19 +604,12 @@ sided-returns t c =
     let start = place.before.before.before.before.before in
     images_known (side start.args.not) start.requires.1 place.word_of.ensures c.if1.true
 
-sided-build-requires : (t : ℕ) → sided-lts.Need-build-requires (word-of-reads.Asked, word-of-reads.Learnt, build-below t, build.Post) (sided-at t) sided.Post
-sided-build-requires t c κs =
-    let one = c.before.before.before.before.before in
-    let place = one.before.before in
-    let start = place.before.before.before.before.before in
-    (omega (arith, start.requires.0), asks_built (side start.args.not) start.requires.1 place.word_of.ensures one.if1.false)
-
 step-leaf-requires : (t : ℕ) → step-lts.Need-leaf-requires (read-row-reads.Asked, read-row-reads.Learnt, leaf-reads.Asked, leaf-reads.Learnt, sided-below t, sided.Post, equivalent-below t, equivalent.Post, pair-below t, pair.Post) (step-at t) step.Post
 step-leaf-requires t c κs =
     let one = c.before.before.before.before in
     let read = one.before.before in
     let start = read.before.before.before.before.before in
-    leaf_ready start.requires.1.asks read.read-row.result read.read-row.ensures one.if1.true
+    leaf_ready start.requires.1 read.read-row.result read.read-row.ensures one.if1.true
 
 step-returns : (t : ℕ) → step-lts.Need-returns (read-row-reads.Asked, read-row-reads.Learnt, leaf-reads.Asked, leaf-reads.Learnt, sided-below t, sided.Post, equivalent-below t, equivalent.Post, pair-below t, pair.Post) (step-at t) step.Post
 step-returns t c =
@@ -643,8 +624,8 @@ step-sided-requires t c κs =
     let two = c.before.before.before.before.before.before in
     let read = two.before.before.before.before in
     let start = read.before.before.before.before.before in (
-      omega (arith, start.requires.0, negated_operand start.requires.1.asks read.read-row.result read.read-row.ensures two.if2.true),
-      asks_negated start.requires.1.asks read.read-row.result read.read-row.ensures two.if2.true,
+      omega (arith, start.requires.0, negated_operand start.requires.1 read.read-row.result read.read-row.ensures two.if2.true),
+      asks_negated start.requires.1 read.read-row.result read.read-row.ensures two.if2.true,
     )
 
 step-returns-2 : (t : ℕ) → step-lts.Need-returns-2 (read-row-reads.Asked, read-row-reads.Learnt, leaf-reads.Asked, leaf-reads.Learnt, sided-below t, sided.Post, equivalent-below t, equivalent.Post, pair-below t, pair.Post) (step-at t) step.Post
@@ -660,7 +641,7 @@ step-equivalent-requires t c κs =
     let two = c.before.before.before.before.before in
     let read = two.before.before.before.before.before.before in
     let start = read.before.before.before.before.before in
-    (omega (arith, start.requires.0), asks_pair start.requires.1.asks read.read-row.result read.read-row.ensures (omega (arith, two.if3.true)))
+    (omega (arith, start.requires.0), asks_pair start.requires.1 read.read-row.result read.read-row.ensures (omega (arith, two.if3.true)))
 
 step-returns-3 : (t : ℕ) → step-lts.Need-returns-3 (read-row-reads.Asked, read-row-reads.Learnt, leaf-reads.Asked, leaf-reads.Learnt, sided-below t, sided.Post, equivalent-below t, equivalent.Post, pair-below t, pair.Post) (step-at t) step.Post
 step-returns-3 t c =
@@ -677,7 +658,7 @@ step-pair-requires t c κs =
     let one = two.before.before in
     let read = one.before.before in
     let start = read.before.before.before.before.before in
-    (omega (arith, start.requires.0), asks_pair start.requires.1.asks read.read-row.result read.read-row.ensures (omega (arith, two.if2.false, one.if1.false)))
+    (omega (arith, start.requires.0), asks_pair start.requires.1 read.read-row.result read.read-row.ensures (omega (arith, two.if2.false, one.if1.false)))
 
 step-returns-4 : (t : ℕ) → step-lts.Need-returns-4 (read-row-reads.Asked, read-row-reads.Learnt, leaf-reads.Asked, leaf-reads.Learnt, sided-below t, sided.Post, equivalent-below t, equivalent.Post, pair-below t, pair.Post) (step-at t) step.Post
 step-returns-4 t c =
@@ -708,17 +689,17 @@ pub +build-equivalent-image-negated-image-pair-sided-step-spec : {M : Type 1} �
     (equivalent-same-length-17 t) (equivalent-same-length-18 t) (equivalent-returns-6 t) (λ c. search rules) (equivalent-join-requires-3 t)
     (equivalent-same-length-19 t) (equivalent-same-length-20 t) (equivalent-same-length-21 t) (equivalent-returns-7 t))
     (λ t. image-lts.spec (build-below t, build.Post) (image_at t) image.Post
-    (λ c. search rules) (λ c. search rules) (λ c. search rules) (image-returns t) (image-build-requires t) (λ c. search rules) (λ c. search rules)
+    (λ c. search rules) (λ c. search rules) (λ c. search rules) (image-returns t) (λ c κs. search rules) (λ c. search rules) (λ c. search rules)
     (λ c. search rules) (λ c. search rules))
     (λ t. negated-image-lts.spec (build-below t, build.Post) (negated-image-at t) negated-image.Post
     (λ c. search rules) (λ c. search rules) (λ c. search rules) (λ c. search rules) (λ c. search rules) (negated-image-returns t)
-    (negated-image-build-requires t) (λ c. search rules) (λ c. search rules) (λ c. search rules) (λ c. search rules))
+    (λ c κs. search rules) (λ c. search rules) (λ c. search rules) (λ c. search rules) (λ c. search rules))
     (λ t. pair-lts.spec (read-row-reads.Asked, read-row-reads.Learnt, sided-below t, sided.Post, join-reads.Asked, join-reads.Learnt) (pair_at t) pair.Post
     (λ c κs. search rules) (λ c. search rules) (pair-sided-requires t) (λ c. search rules) (λ c. search rules) (λ c. search rules) (pair-returns t)
     (λ c. search rules) (pair-sided-requires-2 t) (λ c. search rules) (λ c. search rules) (λ c. search rules) (pair-returns-2 t) (λ c. search rules)
     (pair-join-requires t) (λ c. search rules) (λ c. search rules) (λ c. search rules) (pair-returns-3 t))
     (λ t. sided-lts.spec (word-of-reads.Asked, word-of-reads.Learnt, build-below t, build.Post) (sided-at t) sided.Post
-    (λ c κs. search rules) (sided-mul-known t) (sided-slice-read-known t) (λ c. search rules) (sided-returns t) (sided-build-requires t)
+    (λ c κs. search rules) (sided-mul-known t) (sided-slice-read-known t) (λ c. search rules) (sided-returns t) (λ c κs. search rules)
     (λ c. search rules) (λ c. search rules) (λ c. search rules) (λ c. search rules))
     λ t. step-lts.spec (read-row-reads.Asked, read-row-reads.Learnt, leaf-reads.Asked, leaf-reads.Learnt, sided-below t, sided.Post, equivalent-below t, equivalent.Post, pair-below t, pair.Post) (step-at t) step.Post
     (λ c κs. search rules) (step-leaf-requires t) (λ c. search rules) (λ c. search rules) (step-returns t) (λ c. search rules) (step-sided-requires t)

@@ -2,7 +2,7 @@
 use mathlib.Core.Path.{◌≡◌, refl, sym, ap, ◌∙◌}
 use native.Mathlib.Omega.{arith}
 use Rattle.task_file.specs.Inner.Answers.{fields_told, head_told, lost_head}
-use Rattle.task_file.proofs.HeadWays.{head_ends, head_unclear, lower_refused, upper-refused, head_there, pos}
+use Rattle.task_file.proofs.HeadWays.{head_ends, head_unclear, lower_refused, upper-refused, head-there, pos}
 use borrow.Author.Rules.{rules}
 use Rattle.task_file.proofs.read_head.read_head.Statement.{statement}
 use Rattle.task_file.proofs.read_head.read_head.Tie as tie
@@ -52,7 +52,7 @@ returns-5 c =
     let at-if1 = at-if2.before.before in
     let at-args = at-if1.before.before in
     let f = at-args.args.file.now in sym
-    (head_there f (pos at-if1.if1.false) at-if2.if2.false (sym at-read-three.read-three.ensures ∙ ap (fields_told f) at_a.a.given.1)
+    (head-there f (pos at-if1.if1.false) at-if2.if2.false (sym at-read-three.read-three.ensures ∙ ap (fields_told f) at_a.a.given.1)
     (sym at-read-three2.read-three2.ensures ∙ ap (fields_told f) c.before.b.given.1))
 
 pub read-head-spec : {M : Type 1} → statement M

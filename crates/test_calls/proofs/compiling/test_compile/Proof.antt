@@ -1,6 +1,5 @@
 -- `test_compile` meets its contract: `compiler::compile`, with the head as six numbers; the compiled task's head goes to a buffer of six words, all 0
 -- after a refusal. Assumes nothing.
-use Rattle.compiler.specs.Left.{answer_of}
 use Rattle.test_calls.proofs.TaskLeaves.{compile_leaves}
 use borrow.Author.Rules.{rules}
 use Rattle.test_calls.proofs.compiling.test_compile.Statement.{statement}
@@ -18,7 +17,7 @@ returns c =
     let at-tell-head = c.before.before.before in
     let at-compile-head = at-tell-head.before in
     let at-compile = at-compile-head.before.before.before.before.before.before.before.before.before.before.before.before.before.before in
-    compile_leaves _ (answer_of at-compile.compile.result) _ _ _ _ _ at-compile.compile.ensures at-compile-head.compile_head.ensures
+    compile_leaves _ at-compile.compile.result _ _ _ _ _ at-compile.compile.ensures at-compile-head.compile_head.ensures
     at-tell-head.tell-head.ensures c.compile_number.ensures
 
 pub test-compile-spec : {M : Type 1} → statement M

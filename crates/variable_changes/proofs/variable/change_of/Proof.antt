@@ -7,10 +7,8 @@ use Rattle.variable_changes.proofs.variable.change_of.Lts as lts
 use Rattle.variable_changes.proofs.conflict.deletes.Reads as deletes-reads
 use Rattle.conditions.proofs.condition_if.Reads as condition-if-reads
 use mathlib.Core.Path.{◌∙◌}
-use Rattle.images.specs.Inner.Images.{becoming}
-use Rattle.images.proofs.Memos.{steady_becoming}
 use Rattle.conditions.specs.Inner.Conditions.{effect_tree, condition_at}
-use Rattle.variable_changes.proofs.Standing.{asks_condition, leaves_full, set_full, clear_full, change_made, stands_at_next}
+use Rattle.variable_changes.proofs.Standing.{asks_condition, leaves_full, set_full, clear-full, change_made, stands_at_next}
 use borrow.Author.Tests.{eq-eqb, ne_eqb}
 use Rattle.formula_builder.specs.Inner.Held.{framed}
 
@@ -20,7 +18,7 @@ returns c =
     let at-condition-if = c.before.before.before.before.before.before.before.before.before.before in
     let at-args = at-condition-if.before.before.before.before.before.before.before.before.before.before.before.before.before in
     rw c.no_room.ensures (
-      set_full (becoming (framed at-args.args.frame.now)) (steady_becoming (framed at-args.args.frame.now)) at-args.args.v
+      set_full (framed at-args.args.frame.now).variables at-args.args.v
           (effect_tree (framed at-args.args.frame.now) at-args.args.formulas.now at-args.args.effects.now at-args.args.e)
           at-condition-if.condition-if.ensures (eq-eqb _ 65535 c.before.if1.true),
       leaves_full,
@@ -49,7 +47,7 @@ returns-2 c =
     let at-condition-if = at-if1.before.before.before.before.before.before.before.before.before in
     let at-args = at-condition-if.before.before.before.before.before.before.before.before.before.before.before.before.before in
     rw c.no-room2.ensures (
-      clear_full (becoming (framed at-args.args.frame.now)) (steady_becoming (framed at-args.args.frame.now)) at-args.args.v
+      clear-full (framed at-args.args.frame.now).variables at-args.args.v
           (effect_tree (framed at-args.args.frame.now) at-args.args.formulas.now at-args.args.effects.now at-args.args.e)
           at-condition-if.condition-if.ensures (ne_eqb _ 65535 at-if1.if1.false) at-condition-if2.condition-if2.ensures (eq-eqb _ 65535 c.before.if2.true),
       leaves_full,
@@ -113,7 +111,7 @@ returns-3 c =
     let at-if1 = at-condition-if2.before.before.before.before.before.before.before in
     let at-condition-if = at-if1.before.before.before.before.before.before.before.before.before in
     let at-args = at-condition-if.before.before.before.before.before.before.before.before.before.before.before.before.before in (
-      change_made (becoming (framed at-args.args.frame.now)) (steady_becoming (framed at-args.args.frame.now)) at-args.args.v
+      change_made (framed at-args.args.frame.now).variables at-args.args.v
           (effect_tree (framed at-args.args.frame.now) at-args.args.formulas.now at-args.args.effects.now at-args.args.e)
           at-condition-if.condition-if.ensures (ne_eqb _ 65535 at-if1.if1.false) at-condition-if2.condition-if2.ensures
           (ne_eqb _ 65535 at-if2.if2.false) at-deletes.deletes.ensures,

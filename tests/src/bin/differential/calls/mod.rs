@@ -11,8 +11,6 @@ pub mod planning;
 pub mod reading;
 #[cfg(feature = "running")]
 pub mod running;
-#[cfg(feature = "translating")]
-pub mod translating;
 
 use saqwillo_tests::task::{Head, Tables};
 

@@ -1,9 +1,0 @@
-pub mod Stepping
-pub mod Eaching
-pub mod Copying
-pub mod Finding
-pub mod Guarding
-pub mod Beginning
-pub mod Batching
-pub mod Alike
-pub mod Built

@@ -1,5 +1,0 @@
-pub mod Parts
-pub mod Cut
-pub mod Own
-pub mod Ways
-pub mod WordWays
