@@ -68,8 +68,8 @@ rows_one (suc n) test number =
     go false b (suc number) = refl
 
 -- a test of the code, `if !r`, said of what r is equal to
-pub failed : {r t : Bool} → r ≡ t → not r ≡ true → t ≡ false
-failed {r} e h = sym e ∙ not-true r h
+pub failed : {r t : Bool} → r ≡ t → r ≡ false → t ≡ false
+failed {r} e h = sym e ∙ h
 
-pub tested : {r t : Bool} → r ≡ t → not r ≡ false → t ≡ true
-tested {r} e h = sym e ∙ not-false r h
+pub tested : {r t : Bool} → r ≡ t → r ≡ true → t ≡ true
+tested {r} e h = sym e ∙ h

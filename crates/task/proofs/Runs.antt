@@ -68,8 +68,8 @@ record Halfway (t : Task) (p : Progress) (front rest : List ℕ) (q : Progress) 
 
 halfway : {t : Task} {p q : Progress} (front : List ℕ) {rest : List ℕ} → Does t p (front ++ rest) q → Halfway t p front rest q
 halfway {p = p} [] d = record { at = p; first = none; then = d }
-halfway (o ∷ front) (more below e d) =
-    let h = halfway front d in
+halfway {t = t} {p = p} {q = q} (o ∷ front) {rest = rest} (more below e d) =
+    let h = halfway {p = after_step t p o} front d in
     record { at = h.at; first = more below e h.first; then = h.then }
 
 pub steps_done :

@@ -1,0 +1,33 @@
+-- `rows_number` meets its contract: the first number among the first `count` rows of a table. Assumes nothing.
+use Prim.Native.Nat.{◌≤◌, ◌-◌}
+use native.Mathlib.Omega.{arith}
+use mathlib.Core.Path.{◌≡◌, ◌∙◌}
+use Rattle.task.specs.Bounded.{first_number}
+use Rattle.task.specs.Inner.Tables.{row_number}
+use Rattle.task.proofs.Bounded.{first_none, first_more, first_stops, first_ends}
+use Rattle.task.proofs.Refusals.{row_tested}
+use Rattle.task.proofs.Stores.{row_there}
+use borrow.Author.Rules.{rules}
+use Rattle.task.proofs.check.rows_number.Goals as goal
+
+pub loop-i-init : goal.loop-i-init
+loop-i-init c = (omega arith, first_none _)
+
+pub row_at-row-requires : goal.row_at-row-requires
+row_at-row-requires c =
+    row_there c.args.table c.loop-i-test.true c.requires
+
+pub returns-then-number-ne0 : goal.returns-then-number-ne0
+returns-then-number-ne0 c =
+    let a = c.args in
+    let told = row_tested a.table a.head a.words.now c.loop-i.i c.row_at-row.ensures c.row_number-number.ensures in
+    first_stops _ _ _ _ c.loop-i.invariant.1 c.loop-i-test.true told c.if-number-ne0.true
+
+pub loop-i-preserved : goal.loop-i-preserved
+loop-i-preserved c =
+    let a = c.args in
+    let told = row_tested a.table a.head a.words.now c.loop-i.i c.row_at-row.ensures c.row_number-number.ensures in
+    (omega arith, first_more _ _ c.loop-i.invariant.1 (told ∙ c.if-number-ne0.false))
+
+pub returns : goal.returns
+returns c = first_ends _ _ _ c.loop-i.invariant.0 c.loop-i-test.false c.loop-i.invariant.1

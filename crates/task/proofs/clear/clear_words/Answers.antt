@@ -1,0 +1,28 @@
+-- `clear_words` meets its contract: all words 0. Assumes nothing.
+use Prim.Native.Nat.{◌-◌}
+use native.Mathlib.Omega.{arith}
+use lib.ListN.{length}
+use Rattle.task.proofs.Cleared.{Cleared, cleared_none, cleared_more, cleared_all}
+use Rattle.task.proofs.clear.clear_words.Goals as goal
+
+pub loop-i-init : goal.loop-i-init
+loop-i-init c = cleared_none c.args.words.now
+
+pub overflow_add-i : goal.overflow_add-i
+overflow_add-i c = omega (arith, c.loop-i.invariant)
+
+pub loop-i-smaller : goal.loop-i-smaller
+loop-i-smaller c = omega (arith, c.loop-i.invariant)
+
+pub loop-i-preserved : goal.loop-i-preserved
+loop-i-preserved c =
+    cleared_more c.args.words.now c.loop-i.words c.loop-i.i c.loop-i.invariant
+    c.loop-i-test.true
+
+pub shape_of-words : goal.shape_of-words
+shape_of-words c = c.loop-i.invariant.same
+
+pub returns : goal.returns
+returns c =
+    cleared_all c.args.words.now c.loop-i.words c.loop-i.i c.loop-i.invariant
+    c.loop-i-test.false
