@@ -7,7 +7,7 @@ use mathlib.Core.List.{List, [], ◌∷◌, ◌++◌, append-nil, append_assoc}
 use lib.ListN.{length, get_or, set, length-append, length-set}
 use lib.Seq.{get_or-set_same, get_or-set_other, get_or-append_seam}
 use Rattle.cheapest_plan.specs.Inner.Tables.{Ends, at_start, by_step}
-use Rattle.cheapest_plan.specs.Inner.Visits.{Writable, Writes}
+use Rattle.cheapest_plan.specs.Inner.Visits.{Writable}
 use Rattle.cheapest_plan.proofs.Comparing.{taken_says}
 
 -- the numbers from place k on are written, and those before it lead to state s

@@ -2,11 +2,11 @@
 use Prim.Native.Nat.{ℕ, ◌+◌, ◌*◌, ◌≤◌, ◌<◌}
 use native.Mathlib.Omega.{arith}
 use native.Mathlib.Decide.{ℕ_discrete}
-use mathlib.Core.Path.{◌≡◌, refl, sym, ap, ◌∙◌}
+use mathlib.Core.Path.{◌≡◌, refl, sym, ◌∙◌}
 use mathlib.Core.List.{List}
-use lib.ListN.{length, get_or, set, length-set}
+use lib.ListN.{length, get_or, set}
 use lib.Seq.{get_or-set_same, get_or-set_other}
-use Rattle.state_queue.specs.Inner.Queue.{key, queue_cost, Roomy, Queue, Nearly, Changed, Played}
+use Rattle.state_queue.specs.Inner.Queue.{key, Roomy, Nearly, Played}
 use Rattle.state_queue.proofs.Changes.{changed_nearly}
 use Rattle.state_queue.proofs.Keys.{cost_else}
 use Rattle.cheapest_plan.specs.Inner.Visits.{Emptied, Begun}

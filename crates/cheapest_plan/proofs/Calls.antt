@@ -1,11 +1,11 @@
 -- Laws of the call: each way out gives what the call's definition gives. Assumes nothing.
-use Prim.Native.Nat.{ℕ, zero, suc, ◌+◌, ◌-◌, ◌*◌, ◌^◌, ◌≤◌, ◌<◌}
+use Prim.Native.Nat.{ℕ, zero, suc, ◌+◌, ◌-◌, ◌^◌, ◌≤◌, ◌<◌}
 use native.Mathlib.Nat.{one-le-pow}
 use native.Mathlib.Omega.{arith}
 use native.Mathlib.Decide.{dec_lt}
 use mathlib.Core.Path.{◌≡◌, refl, sym, ap, ◌∙◌}
 use mathlib.Core.Bool.{Bool, true, false, cond}
-use mathlib.Core.List.{List, [], ◌∷◌, ◌++◌}
+use mathlib.Core.List.{List, [], ◌++◌}
 use lib.Dec.{leb}
 use lib.ListN.{length, get_or, take, replicate, length-append, length-replicate, get_or-replicate, get_or-append}
 use lib.Seq.{ext_get_or, get_or-append-add, length-take-le}
@@ -21,8 +21,8 @@ use Rattle.cheapest_plan.specs.Cheapest.{Pick, no_plan, plan_of, cheapest}
 use Rattle.cheapest_plan.specs.Planned.{search_refusal, plan_refused, plan_written, plan_told, planned_by, planned, PlanGives}
 use Rattle.cheapest_plan.specs.Inner.States.{Bits, code, state_of}
 use Rattle.cheapest_plan.specs.Inner.Tables.{Ground}
-use Rattle.cheapest_plan.specs.Inner.Visits.{TaskIn, Known, GoalReady, Searchable, SearchEnd, no_end, first_end, EndReady, EndFound, Writable, Writes}
-use Rattle.cheapest_plan.specs.Inner.Plans.{PlanReady, PlanEnd, no_plan_there, plan_there, EndsPlan, PlanTold, TellReady, TellsPlan, Plans}
+use Rattle.cheapest_plan.specs.Inner.Visits.{Known, GoalReady, Searchable, SearchEnd, no_end, first_end, EndReady, EndFound, Writable, Writes}
+use Rattle.cheapest_plan.specs.Inner.Plans.{PlanReady, PlanEnd, no_plan_there, plan_there, PlanTold, TellReady}
 use Rattle.cheapest_plan.proofs.States.{code_below, state_of_code}
 use Rattle.cheapest_plan.proofs.Visiting.{QueuedAt, queued_at, IsQueued, waiting_at, least-key}
 use Rattle.cheapest_plan.proofs.Refusing.{few_states, search_ready}

@@ -1,21 +1,21 @@
 -- Laws of lists by their last steps: two lists of one length are walked back until they have the same front, and the steps there decide. Assumes
 -- nothing.
-use Prim.Native.Nat.{ℕ, zero, suc, ◌+◌, ◌-◌, ◌*◌, ◌/◌, ◌%◌, ◌≤◌, ◌<◌}
+use Prim.Native.Nat.{ℕ, ◌+◌, ◌-◌, ◌*◌, ◌/◌, ◌≤◌, ◌<◌}
 use native.Mathlib.Omega.{arith}
 use native.Mathlib.Decide.{dec_lt, ℕ_discrete}
-use mathlib.Core.Path.{◌≡◌, refl, sym, ap, ◌∙◌}
+use mathlib.Core.Path.{◌≡◌, refl, ap, ◌∙◌}
 use mathlib.Core.Logic.{◌⊎◌, inl, inr}
 use mathlib.Core.Bool.{Bool, true, false, cond}
 use mathlib.Core.List.{List, [], ◌∷◌, ◌++◌}
 use lib.Dec.{eqb, ltb}
 use lib.ListN.{length, get_or, set, replicate, length-append, length-set, length-replicate, get_or-replicate}
 use lib.Seq.{get_or-set_same, get_or-set_other}
-use borrow.Author.Tests.{lt-ltb, le-ltb, eq-eqb, ne_eqb}
+use borrow.Author.Tests.{lt-ltb, le-ltb}
 use Rattle.cheapest_plan.specs.Order.{FirstByNumbers}
 use Rattle.cheapest_plan.specs.Inner.States.{state_of}
 use Rattle.cheapest_plan.specs.Inner.Search.{Status, taken, stands}
 use Rattle.cheapest_plan.specs.Inner.Tables.{Ends, at_start, by_step, Says, says_taken, Holds, Comparable, Compares, Verdict, comes_first, not_first, Noted, Pairs}
-use Rattle.cheapest_plan.proofs.Order.{Compared, sooner, alike, later, by_numbers_length, by_numbers_irreflexive, by_numbers_transitive, by_numbers_total, by_numbers_behind, by_numbers_last}
+use Rattle.cheapest_plan.proofs.Order.{Compared, sooner, alike, later, by_numbers_irreflexive, by_numbers_transitive, by_numbers_total, by_numbers_behind, by_numbers_last}
 use Rattle.cheapest_plan.proofs.Search.{has_one}
 
 -- the last number decides only behind the same list

@@ -1,24 +1,23 @@
 -- Laws of the best end: of all queued goal states of the least key the one whose list comes first ends the cheapest plan. Assumes nothing.
-use Prim.Native.Nat.{ℕ, ◌+◌, ◌*◌, ◌^◌, ◌≤◌, ◌<◌}
+use Prim.Native.Nat.{ℕ, ◌+◌, ◌*◌, ◌≤◌, ◌<◌}
 use native.Mathlib.Omega.{arith}
 use native.Mathlib.Decide.{ℕ_discrete}
-use mathlib.Core.Path.{◌≡◌, refl, sym, ap, ◌∙◌}
+use mathlib.Core.Path.{◌≡◌, refl, sym, ◌∙◌}
 use mathlib.Core.Logic.{◌⊎◌, inl, inr}
 use mathlib.Core.Bool.{Bool, true, false, false≢true}
 use mathlib.Core.List.{List}
 use lib.ListN.{length, get_or}
 use Rattle.task.specs.declared.Head.{Head}
 use Rattle.task.specs.Bounded.{upto}
-use Rattle.task.specs.Table.{Task, row_at}
+use Rattle.task.specs.Table.{row_at}
 use Rattle.task.specs.Semantics.{holds}
 use Rattle.task.specs.Tree.{formula_of}
 use Rattle.task.specs.Run.{goal_holds}
-use Rattle.cheapest_plan.specs.Cheapest.{plan_of, cheapest}
-use Rattle.cheapest_plan.specs.Order.{FirstByNumbers, Before, earlier}
-use Rattle.cheapest_plan.specs.Inner.States.{Bits, code, state_of}
-use Rattle.cheapest_plan.specs.Inner.Search.{NoLater, equal, before, KeyLess, less_cost, less_steps, Status, queued, taken, Has, waits, Searching, LeastKey}
-use Rattle.cheapest_plan.specs.Inner.Tables.{Ends, Holds, Comparable, Verdict, comes_first, not_first}
-use Rattle.cheapest_plan.specs.Inner.Visits.{GoalTold, EndReady, Rivals, takes_over, gives_way, Replaces, EndFound}
+use Rattle.cheapest_plan.specs.Order.{FirstByNumbers, earlier}
+use Rattle.cheapest_plan.specs.Inner.States.{code, state_of}
+use Rattle.cheapest_plan.specs.Inner.Search.{NoLater, equal, before, KeyLess, less_cost, less_steps, queued, waits, LeastKey}
+use Rattle.cheapest_plan.specs.Inner.Tables.{Ends, Comparable, Verdict, comes_first, not_first}
+use Rattle.cheapest_plan.specs.Inner.Visits.{GoalTold, EndReady, Rivals, takes_over, gives_way, EndFound}
 use Rattle.cheapest_plan.proofs.Order.{Compared, sooner, alike, later, by_numbers_total, no_later_transitive}
 use Rattle.cheapest_plan.proofs.States.{state_bits, code_below, state_of_code}
 use Rattle.cheapest_plan.proofs.Search.{has_one, key_less_before, key_cases, end_is_cheapest}
@@ -239,15 +238,13 @@ module _ {h : Head} {f : List ℕ} {n first : ℕ} {words : List ℕ} (v : EndRe
 
     -- one round, by which end comes out of it
     pub best_round :
-        {A B : Type 0} {r : Bool} {next : ℕ}
+        {r : Bool} {next : ℕ}
         → Rivals candidate i r
         → i < n
-        → A ⊎ B
-        → (A → (r ≡ true) × (next ≡ i))
-        → (B → (r ≡ false) × (next ≡ end))
+        → ((r ≡ true) × (next ≡ i)) ⊎ ((r ≡ false) × (next ≡ end))
         → Best v (i + 1) next
-    best_round rivals below (inl a) changes stays = rw (changes a).1 (best_changes rivals (changes a).0 below)
-    best_round rivals below (inr b) changes stays = rw (stays b).1 (best_stays rivals (stays b).0)
+    best_round rivals below (inl a) = rw a.1 (best_changes rivals a.0 below)
+    best_round rivals below (inr b) = rw b.1 (best_stays rivals b.0)
 
   -- all states
   pub best_found : {i end : ℕ} → Best v i end → n ≤ i → EndFound v.t n end words

@@ -5,14 +5,13 @@ use mathlib.Core.Path.{◌≡◌, refl, sym, ap, ◌∙◌}
 use mathlib.Core.Bool.{Bool, true, false}
 use mathlib.Core.List.{List}
 use lib.ListN.{length, get_or}
-use Rattle.task.specs.Table.{Operator, operator_at}
-use Rattle.task.specs.Run.{applicable, charge_of, charge, operator_of}
+use Rattle.task.specs.Table.{operator_at}
+use Rattle.task.specs.Run.{applicable, charge_of, charge}
 use Rattle.task.specs.Inner.Values.{bit}
 use Rattle.state_codes.specs.Inner.Masks.{next_code}
-use Rattle.state_queue.specs.Inner.Queue.{Roomy}
 use Rattle.cheapest_plan.specs.Inner.States.{Bits, state_of}
-use Rattle.cheapest_plan.specs.Inner.Tables.{Stepping, Noting, Relaxable, Zeros, Relaxes}
-use Rattle.cheapest_plan.specs.Inner.Visits.{Stage, SteppedTo, NotedTo}
+use Rattle.cheapest_plan.specs.Inner.Tables.{Relaxable, Zeros, Relaxes}
+use Rattle.cheapest_plan.specs.Inner.Visits.{Stage, NotedTo}
 use Rattle.cheapest_plan.proofs.States.{state_bits}
 use Rattle.cheapest_plan.proofs.Searching.{passed_over}
 use Rattle.cheapest_plan.proofs.Relaxing.{taken_short, taken_cheap}

@@ -3,12 +3,12 @@ use Prim.Native.Nat.{ℕ, ◌+◌, ◌*◌, ◌^◌, ◌≤◌, ◌<◌}
 use native.Mathlib.Omega.{arith}
 use native.Mathlib.Decide.{ℕ_discrete}
 use mathlib.Core.Path.{◌≡◌, refl, sym, ap, ◌∙◌}
-use mathlib.Core.Bool.{true, false, cond}
+use mathlib.Core.Bool.{cond}
 use mathlib.Core.List.{List}
 use lib.Dec.{eqb}
 use lib.ListN.{length, get_or}
 use borrow.Author.Tests.{eq-eqb, ne_eqb}
-use Rattle.cheapest_plan.specs.Inner.States.{Bits, code, state_of}
+use Rattle.cheapest_plan.specs.Inner.States.{code, state_of}
 use Rattle.cheapest_plan.specs.Inner.Search.{Status, unreached, queued, taken, Changed}
 use Rattle.cheapest_plan.specs.Inner.Tables.{Ends, at_start, by_step, most_cost, Says, says_unreached, says_queued, says_taken, Holds, Elsewhere}
 use Rattle.cheapest_plan.proofs.States.{state_bits, code_of_state, state_of_code}

@@ -1,11 +1,11 @@
 -- Laws of a state that comes into the queue or comes earlier in it: its three words are stored, and it goes up. Assumes nothing.
 use Prim.Native.Nat.{ℕ, ◌+◌, ◌*◌, ◌≤◌, ◌<◌}
 use native.Mathlib.Omega.{arith}
-use mathlib.Core.Path.{◌≡◌, refl, sym, ap, ◌∙◌}
+use mathlib.Core.Path.{◌≡◌, refl, ◌∙◌}
 use mathlib.Core.List.{List}
 use lib.ListN.{length, get_or, set, length-set}
 use lib.Seq.{get_or-set_same, get_or-set_other}
-use Rattle.state_queue.specs.Inner.Queue.{key, queue_cost, Roomy, Queue, Nearly, Changed, Played}
+use Rattle.state_queue.specs.Inner.Queue.{key, queue_cost, Roomy, Nearly, Changed, Played}
 use Rattle.state_queue.proofs.Changes.{changed_nearly}
 use Rattle.cheapest_plan.specs.Inner.Tables.{MayQueue, Elsewhere, QueuedNow}
 

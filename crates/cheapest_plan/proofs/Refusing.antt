@@ -3,22 +3,22 @@ use Prim.Native.Nat.{ℕ, ◌+◌, ◌*◌, ◌%◌, ◌^◌, ◌≤◌, ◌<◌
 use native.Mathlib.Nat.{one-mul}
 use native.Mathlib.Omega.{arith}
 use native.Mathlib.Decide.{dec_lt}
-use mathlib.Core.Path.{◌≡◌, refl, sym, ap, ◌∙◌}
+use mathlib.Core.Path.{◌≡◌, refl, sym, ◌∙◌}
 use mathlib.Core.Bool.{Bool, true, false, ◌&&◌}
 use mathlib.Core.List.{List}
 use lib.Dec.{leb}
 use lib.ListN.{length, get_or, get_or-eq_default}
 use lib.Pow.{shl_exact, pow_mono}
 use borrow.Author.Tests.{le-leb, lt-leb, leb-true}
-use Rattle.task.specs.Table.{Lent, Operator, operator_width, task_of, operator_at}
+use Rattle.task.specs.Table.{Lent, operator_width, task_of, operator_at}
 use Rattle.task.specs.Check.{refusal, unless}
 use Rattle.task.specs.Rules.{no_operator}
 use Rattle.task.proofs.Charges.{charge_most}
 use Rattle.task.specs.Run.{charge_of, charge, operator_of}
-use Rattle.task.proofs.Bounded.{and_left, and_right, length_upto, getD_upto}
+use Rattle.task.proofs.Bounded.{and_left, and_right, getD_upto}
 use Rattle.task.proofs.Held.{length_initial, length_effects, length_operators}
 use Rattle.task.proofs.Kept.{kept_rules}
-use Rattle.stepper.specs.Stepped.{first_of, step_scratch_kept}
+use Rattle.stepper.specs.Stepped.{step_scratch_kept}
 use Rattle.stepper.proofs.Refusing.{first, first_none, rest_none, unless_kept, tables_ready}
 use Rattle.cheapest_plan.specs.Planned.{few_variables, search_scratch_kept, search_refusal}
 use Rattle.cheapest_plan.specs.Inner.Visits.{TaskIn}

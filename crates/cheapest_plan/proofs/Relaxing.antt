@@ -1,28 +1,28 @@
 -- Laws of one operator's step: which list stays at the state that it leads to, and what is known then. Assumes nothing.
-use Prim.Native.Nat.{ℕ, ◌+◌, ◌-◌, ◌*◌, ◌/◌, ◌%◌, ◌^◌, ◌≤◌, ◌<◌}
+use Prim.Native.Nat.{ℕ, ◌+◌, ◌-◌, ◌*◌, ◌/◌, ◌^◌, ◌≤◌, ◌<◌}
 use native.Mathlib.Nat.{one-le-pow}
 use native.Mathlib.Omega.{arith}
 use native.Mathlib.Decide.{dec_lt, ℕ_discrete}
 use mathlib.Core.Path.{◌≡◌, refl, sym, ap, ◌∙◌}
 use mathlib.Core.Bool.{Bool, true, false, not}
 use mathlib.Core.List.{List, [], ◌∷◌, ◌++◌}
-use lib.Dec.{eqb, leb, ltb}
+use lib.Dec.{ltb}
 use lib.ListN.{length, get_or, length-append}
-use borrow.Author.Tests.{lt-ltb, le-ltb, lt-leb, le-leb}
+use borrow.Author.Tests.{lt-ltb, le-ltb}
 use Rattle.task.specs.Table.{Task}
-use Rattle.task.specs.Run.{applicable, charge}
-use Rattle.state_queue.specs.Inner.Queue.{key, queue_cost, Roomy, Queue}
+use Rattle.task.specs.Run.{charge}
+use Rattle.state_queue.specs.Inner.Queue.{key, queue_cost, Roomy}
 use Rattle.state_queue.proofs.Keys.{cost_else}
-use Rattle.cheapest_plan.specs.Order.{FirstByNumbers, Before, cheaper, shorter, earlier}
-use Rattle.cheapest_plan.specs.Inner.Leads.{next, Leads, stays, goes}
+use Rattle.cheapest_plan.specs.Order.{FirstByNumbers, cheaper, shorter, earlier}
+use Rattle.cheapest_plan.specs.Inner.Leads.{Leads, stays, goes}
 use Rattle.cheapest_plan.specs.Inner.States.{Bits, code, state_of}
-use Rattle.cheapest_plan.specs.Inner.Search.{NoLater, equal, before, Status, unreached, queued, taken, Has, waits, stands, Reached, Searching, Changed}
-use Rattle.cheapest_plan.specs.Inner.Tables.{Ends, at_start, by_step, most_cost, Says, says_queued, Holds, Verdict, comes_first, not_first, Noted, Pairs, Notes, Ground, Stepping}
-use Rattle.cheapest_plan.specs.Inner.Tables.{Noting, Relaxable, left_state, new_state, new_list, new_cost, Judged, old_stays, new_comes, Judges, MayQueue, Elsewhere, QueuedNow, Zeros, Relaxes}
-use Rattle.cheapest_plan.proofs.Order.{Compared, sooner, alike, later, by_numbers_length, by_numbers_irreflexive, by_numbers_total, by_numbers_last}
-use Rattle.cheapest_plan.proofs.Leads.{leads_once, next_bits}
+use Rattle.cheapest_plan.specs.Inner.Search.{NoLater, equal, before, Status, unreached, queued, taken, waits, stands, Searching, Changed}
+use Rattle.cheapest_plan.specs.Inner.Tables.{Ends, at_start, by_step, Says, says_queued, Verdict, comes_first, not_first, Noted, Pairs, Notes, Ground}
+use Rattle.cheapest_plan.specs.Inner.Tables.{Noting, Relaxable, left_state, new_state, new_list, new_cost, Judged, old_stays, new_comes, MayQueue, QueuedNow, Zeros}
+use Rattle.cheapest_plan.proofs.Order.{Compared, sooner, alike, later, by_numbers_length, by_numbers_irreflexive, by_numbers_total}
+use Rattle.cheapest_plan.proofs.Leads.{leads_once}
 use Rattle.cheapest_plan.proofs.Loops.{shorten}
-use Rattle.cheapest_plan.proofs.States.{state_bits, state_of_code, code_of_state}
+use Rattle.cheapest_plan.proofs.States.{state_bits}
 use Rattle.cheapest_plan.proofs.Search.{start_bits, has_one}
 use Rattle.cheapest_plan.proofs.Searching.{kept, taken_before, queues}
 use Rattle.cheapest_plan.proofs.Comparing.{not_last, behind}

@@ -1,5 +1,5 @@
 -- Laws of the search from round to round: what is known at its begin, what its end tells, and that each round takes a state. Assumes nothing.
-use Prim.Native.Nat.{ℕ, zero, suc, ◌+◌, ◌*◌, ◌^◌, ◌≤◌, ◌<◌}
+use Prim.Native.Nat.{ℕ, zero, suc, ◌+◌, ◌≤◌, ◌<◌}
 use native.Mathlib.Omega.{arith}
 use native.Mathlib.Decide.{ℕ_discrete}
 use mathlib.Core.Path.{◌≡◌, refl, sym, ap, ◌∙◌}
@@ -10,14 +10,12 @@ use lib.ListN.{length, get_or}
 use borrow.Author.Tests.{eq-eqb, ne_eqb}
 use Rattle.task.specs.declared.Head.{Head}
 use Rattle.task.specs.Table.{Task}
-use Rattle.task.specs.Run.{goal_holds}
-use Rattle.state_queue.specs.Inner.Queue.{winner, Roomy, Queue, queued as Waits-there}
+use Rattle.state_queue.specs.Inner.Queue.{winner, Roomy, queued as Waits-there}
 use Rattle.state_queue.proofs.Changes.{root_state}
-use Rattle.cheapest_plan.specs.Cheapest.{no_plan, cheapest}
-use Rattle.cheapest_plan.specs.Inner.States.{Bits, state_of}
-use Rattle.cheapest_plan.specs.Inner.Search.{Status, unreached, queued, Searching, Changed}
-use Rattle.cheapest_plan.specs.Inner.Tables.{at_start, Says, says_unreached, says_queued, Holds, Ground, Zeros}
-use Rattle.cheapest_plan.specs.Inner.Visits.{TaskIn, Known, Begun, GoalReady, Visitable, Visited, at_goal, passed, Visits, Searchable, SearchEnd, no_end, first_end}
+use Rattle.cheapest_plan.specs.Inner.States.{state_of}
+use Rattle.cheapest_plan.specs.Inner.Search.{unreached, queued, Changed}
+use Rattle.cheapest_plan.specs.Inner.Tables.{at_start, Says, says_unreached, says_queued}
+use Rattle.cheapest_plan.specs.Inner.Visits.{Known, Begun, GoalReady, Visitable, Visited, at_goal, passed, Visits, Searchable, SearchEnd, no_end, first_end}
 use Rattle.cheapest_plan.proofs.States.{state_bits}
 use Rattle.cheapest_plan.proofs.Search.{empty_queue}
 use Rattle.cheapest_plan.proofs.Searching.{begun}

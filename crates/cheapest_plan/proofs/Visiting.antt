@@ -1,20 +1,20 @@
 -- Laws of a visit: the goal is tested in the first state of the queue; if it does not hold there, the state is taken, and where operators lead from it is
 -- known. Assumes nothing.
-use Prim.Native.Nat.{ℕ, ◌+◌, ◌-◌, ◌*◌, ◌^◌, ◌≤◌, ◌<◌}
+use Prim.Native.Nat.{ℕ, ◌+◌, ◌*◌, ◌^◌, ◌≤◌, ◌<◌}
 use native.Mathlib.Omega.{arith}
-use native.Mathlib.Decide.{ℕ_discrete, dec_lt}
+use native.Mathlib.Decide.{ℕ_discrete}
 use mathlib.Core.Path.{◌≡◌, refl, sym, ap, ◌∙◌}
-use mathlib.Core.Bool.{Bool, true, false, false≢true, ◌&&◌}
+use mathlib.Core.Bool.{Bool, true, false}
 use mathlib.Core.List.{List, [], ◌∷◌, ◌++◌}
-use lib.Dec.{eqb, ltb}
-use lib.ListN.{length, get_or, set, take, length-append, length-set}
+use lib.Dec.{eqb}
+use lib.ListN.{length, get_or, set, take, length-append}
 use lib.Seq.{get_or-set_same, get_or-set_other, take_at}
-use borrow.Author.Tests.{lt-ltb, le-ltb, ltb-true, ltb-false}
+use borrow.Author.Tests.{lt-ltb, ltb-true, ltb-false}
 use Rattle.task.specs.declared.Head.{Head}
 use Rattle.task.specs.Bounded.{upto}
-use Rattle.task.specs.Table.{Task, Row, Operator, row_at, operator_at}
+use Rattle.task.specs.Table.{Operator, row_at, operator_at}
 use Rattle.task.specs.Rules.{no_operator}
-use Rattle.task.specs.Semantics.{Effect, holds, apply}
+use Rattle.task.specs.Semantics.{holds}
 use Rattle.task.specs.Tree.{formula_of, effect_of}
 use Rattle.task.specs.Run.{goal_holds, operator_of, applicable, effect_of_operator}
 use Rattle.task.specs.Inner.Values.{bit, Values}
@@ -28,9 +28,9 @@ use Rattle.state_queue.proofs.Changes.{root_state, root_least, changed_waits}
 use Rattle.state_queue.proofs.Keys.{cost_taken, cost_else}
 use Rattle.cheapest_plan.specs.Inner.Leads.{next}
 use Rattle.cheapest_plan.specs.Inner.States.{Bits, code, state_of}
-use Rattle.cheapest_plan.specs.Inner.Search.{KeyLess, less_cost, less_steps, Status, queued, taken, Has, waits, stands, Searching, Changed, LeastKey}
-use Rattle.cheapest_plan.specs.Inner.Tables.{Ends, at_start, by_step, most_cost, Says, says_taken, Holds, Ground, Stepping, Elsewhere, Zeros}
-use Rattle.cheapest_plan.specs.Inner.Visits.{TaskIn, Stage, SteppedTo, Expandable, Known, GoalReady, GoalTold, TakenNow, Visitable, Visited, at_goal, passed, Visits}
+use Rattle.cheapest_plan.specs.Inner.Search.{KeyLess, less_cost, less_steps, Status, queued, taken, waits, stands, Changed, LeastKey}
+use Rattle.cheapest_plan.specs.Inner.Tables.{Ends, at_start, by_step, most_cost, Says, says_taken, Holds, Stepping, Elsewhere, Zeros}
+use Rattle.cheapest_plan.specs.Inner.Visits.{Stage, SteppedTo, Expandable, GoalReady, GoalTold, TakenNow, Visitable, Visited, at_goal, passed}
 use Rattle.cheapest_plan.proofs.Leads.{leads_once}
 use Rattle.cheapest_plan.proofs.States.{state_bits, code_below, state_of_code}
 use Rattle.cheapest_plan.proofs.Search.{has_one}

@@ -14,7 +14,7 @@ use images::sided;
 
 // The condition of effect e: what the memo has; that of an atom; else it is built, and kept. Rows are visited only where the atom stands below
 // them (`condition_if`), and not below one whose condition is kept.
-#[cycle(both_built_condition_condition_if_under)]
+#[cycle(conditions)]
 pub fn condition(
     formulas: &[u16],
     effects: &[u16],
@@ -50,7 +50,7 @@ pub fn condition(
 }
 
 // The condition of effect e, which is "both" or "under".
-#[cycle(both_built_condition_condition_if_under)]
+#[cycle(conditions)]
 fn built(
     formulas: &[u16],
     effects: &[u16],
@@ -79,7 +79,7 @@ fn built(
 }
 
 // "Both": the left effect, the right one, the join; one that is false leaves the other.
-#[cycle(both_built_condition_condition_if_under)]
+#[cycle(conditions)]
 fn both(
     formulas: &[u16],
     effects: &[u16],
@@ -140,7 +140,7 @@ fn both(
 }
 
 // The condition of effect e: false, if the atom does not stand in e; else it is built.
-#[cycle(both_built_condition_condition_if_under)]
+#[cycle(conditions)]
 pub fn condition_if(
     formulas: &[u16],
     effects: &[u16],
@@ -166,7 +166,7 @@ pub fn condition_if(
 }
 
 // "Under": the inner effect is built first; if it is false, so is the answer. Else the formula's image, and the join.
-#[cycle(both_built_condition_condition_if_under)]
+#[cycle(conditions)]
 fn under(
     formulas: &[u16],
     effects: &[u16],

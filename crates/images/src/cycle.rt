@@ -18,7 +18,7 @@ const IMPLIES: u16 = 6;
 const EQUIVALENT: u16 = 7;
 
 // The image of formula i: constant time if the memo has it, else what building it costs.
-#[cycle(build_equivalent_image_negated_image_pair_sided_step)]
+#[cycle(images)]
 pub fn image(
     formulas: &[u16],
     i: usize,
@@ -42,7 +42,7 @@ pub fn image(
 }
 
 // The negated image of formula i, likewise.
-#[cycle(build_equivalent_image_negated_image_pair_sided_step)]
+#[cycle(images)]
 pub fn negated_image(
     formulas: &[u16],
     i: usize,
@@ -66,7 +66,7 @@ pub fn negated_image(
 }
 
 // Formula i, built on a side and noted in the memo.
-#[cycle(build_equivalent_image_negated_image_pair_sided_step)]
+#[cycle(images)]
 fn build(
     formulas: &[u16],
     i: usize,
@@ -93,7 +93,7 @@ fn build(
 }
 
 // The step of row i, by its kind: "not" changes sides, and so does the left of "implies"; "and" joins by "or" if negated, the others if not.
-#[cycle(build_equivalent_image_negated_image_pair_sided_step)]
+#[cycle(images)]
 fn step(
     formulas: &[u16],
     i: usize,
@@ -138,7 +138,7 @@ fn step(
 }
 
 // Row i as (a and b) or (not a and not b); negated, (a and not b) or (not a and b).
-#[cycle(build_equivalent_image_negated_image_pair_sided_step)]
+#[cycle(images)]
 fn equivalent(
     formulas: &[u16],
     i: usize,
@@ -188,7 +188,7 @@ fn equivalent(
 }
 
 // Row i's operands, each on its side, and their join.
-#[cycle(build_equivalent_image_negated_image_pair_sided_step)]
+#[cycle(images)]
 fn pair(
     formulas: &[u16],
     i: usize,
@@ -238,7 +238,7 @@ fn pair(
 }
 
 // The image of formula i, or its negated image, by a flag. The memo is looked at here, before a call is made.
-#[cycle(build_equivalent_image_negated_image_pair_sided_step)]
+#[cycle(images)]
 pub fn sided(
     formulas: &[u16],
     i: usize,

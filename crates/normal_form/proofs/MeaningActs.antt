@@ -4,7 +4,7 @@ use mathlib.Core.Path.{◌≡◌, refl, sym, ◌∙◌}
 use mathlib.Core.Bool.{Bool, true, false, ◌&&◌, ◌||◌}
 use mathlib.Core.List.{List, [], ◌∷◌}
 use Rattle.task.specs.Table.{Row}
-use Rattle.task.specs.Semantics.{holds, Atom, same_atom, Effect, effcond}
+use Rattle.task.specs.Semantics.{holds, Atom, same_atom, Effect, effcond, both}
 use Rattle.task.specs.Tree.{formula_of}
 use Rattle.normal_form.specs.Assembly.{Rule}
 use Rattle.normal_form.proofs.ShapeRule.{conjunct}
@@ -30,7 +30,7 @@ module _ (formulas : List Row) (c : List ℕ) (l : Atom) where
   unfolding chain_on conjunct effcond acts
   acts_on e [] = sym (or_none (effcond c l e))
   acts_on e (r ∷ rs) =
-      acts_on _ rs
+      acts_on (both e (conjunct formulas r)) rs
       ∙ or_regroup (effcond c l e) (holds c (formula_of formulas r.condition) && same_atom l r.atom)
       (acts formulas c l rs)
 

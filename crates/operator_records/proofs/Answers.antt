@@ -5,7 +5,7 @@ use native.Mathlib.Nat.{suc-ne-zero}
 use mathlib.Core.Bool.{Bool, true, false, not}
 use mathlib.Core.List.{List, [], ◌∷◌}
 use lib.ListN.{length, get_or, set}
-use lib.Dec.{T, leb, ltb, eqb, leb→le, nleb→lt, ltb→lt, nltb→le}
+use lib.Dec.{T, leb, ltb, leb→le, nleb→lt, ltb→lt, nltb→le}
 use Rattle.task.specs.Check.{unless}
 use Rattle.operator_records.specs.declared.OperatorRecord.{OperatorRecord}
 use Rattle.operator_records.specs.Change.{number_of, with_percent, changed, change_by, change, ChangeGives}
@@ -32,9 +32,9 @@ pub within : (count number percent : ℕ) → number_of count number percent ≡
 unfolding number_of
 within count number percent is = ltb→lt number count (kept-at-zero (ltb number count) 16 _ is)
 
-refused-by : (k : ℕ) (rs : List OperatorRecord) (number percent : ℕ) → T (not (eqb k 0)) → ChangeGives (change_by k rs number percent) k rs
+refused-by : (k : ℕ) (rs : List OperatorRecord) (number percent : ℕ) → (k ≡ 0 → ⊥) → ChangeGives (change_by k rs number percent) k rs
 unfolding change_by
-refused-by zero rs number percent not_zero = absurd not_zero
+refused-by zero rs number percent not_zero = absurd (not_zero refl)
 refused-by (suc k) rs number percent not_zero = record { answer = refl; records = refl }
 
 changed_by : (k : ℕ) (rs : List OperatorRecord) (number percent : ℕ) → k ≡ 0 → ChangeGives (change_by k rs number percent) k (changed rs number percent)
@@ -43,11 +43,11 @@ changed_by zero rs number percent is = record { answer = refl; records = refl }
 changed_by (suc k) rs number percent is = absurd (suc-ne-zero k is)
 
 -- an answer that is not 0 leaves every record as it was
-pub change-refused : (rs : List OperatorRecord) (number percent r : ℕ) → r ≡ number_of (length rs) number percent → T (not (eqb r 0))
+pub change-refused : (rs : List OperatorRecord) (number percent r : ℕ) → r ≡ number_of (length rs) number percent → (r ≡ 0 → ⊥)
     → ChangeGives (change rs number percent) r rs
 unfolding change
 change-refused rs number percent r is not_zero =
-    let by_number = refused-by (number_of (length rs) number percent) rs number percent (subst (λ k. T (not (eqb k 0))) is not_zero) in
+    let by_number = refused-by (number_of (length rs) number percent) rs number percent (subst (λ (k : ℕ). k ≡ 0 → ⊥) is not_zero) in
     subst (λ k. ChangeGives (change rs number percent) k rs) (sym is) by_number
 
 -- the record with another percent, stored at its number, is the definition's list

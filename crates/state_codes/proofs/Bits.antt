@@ -1,13 +1,12 @@
 -- Bits of numbers: of unions, differences, powers and parts; and of the state of a code. Assumes nothing.
 use Prim.Native.Nat.{ℕ, zero, suc, ◌+◌, ◌-◌, ◌*◌, ◌/◌, ◌%◌, ◌^◌, ◌≤◌, ◌<◌, max, min}
-use native.Mathlib.Nat.{two-pow-succ, pow-zero, not-suc-le-zero, one-mul}
+use native.Mathlib.Nat.{two-pow-succ, not-suc-le-zero, one-mul}
 use native.Mathlib.Omega.{arith}
-use native.Mathlib.Decide.{dec_lt, ℕ_discrete}
-use mathlib.Core.Path.{◌≡◌, refl, sym, ap, ap₂, ◌∙◌}
-use mathlib.Core.List.{List, [], ◌∷◌}
+use native.Mathlib.Decide.{dec_lt}
+use mathlib.Core.Path.{◌≡◌, sym, ap, ◌∙◌}
 use lib.Bits.{bit_and, bit_or, bit_xor, differ, and_shr, and_step, or_shr, or_step, xor_shr, xor_step}
 use lib.Pow.{shl-shr, shr-shr, shr_lt, pow-lt, pow-add, field, mod-mod-pow}
-use lib.ListN.{length, get_or}
+use lib.ListN.{get_or}
 use Rattle.state_codes.specs.Inner.States.{state_of}
 
 lowest : (x r y : ℕ) → x ≡ r * 2 + y → y ≤ 1 → x % 2 ≡ y

@@ -1,28 +1,19 @@
 -- The words of effects: each arm of the code, each turn of its loop, and what they mean. Assumes nothing.
-use Prim.Native.Nat.{ℕ, zero, suc, ◌+◌, ◌-◌, ◌*◌, ◌/◌, ◌%◌, ◌^◌, ◌≤◌, ◌<◌, max}
+use Prim.Native.Nat.{ℕ, zero, suc, ◌+◌, ◌*◌, ◌%◌, ◌^◌, ◌≤◌, ◌<◌}
 use native.Mathlib.Nat.{one-mul}
 use native.Mathlib.Omega.{arith}
-use native.Mathlib.Decide.{dec_lt, ℕ_discrete}
-use mathlib.Core.Path.{◌≡◌, refl, sym, ap, ap₂, ◌∙◌}
-use mathlib.Core.Bool.{Bool, true, false, cond, ◌&&◌, ◌||◌}
+use native.Mathlib.Decide.{ℕ_discrete}
+use mathlib.Core.Path.{◌≡◌, refl, sym, ap₂, ◌∙◌}
 use mathlib.Core.List.{List}
-use lib.Bits.{bit_or, or_lt, or_mod}
-use lib.Dec.{eqb, ltb}
-use lib.Pow.{shl_exact, pow-add, pow-lt, pow_mono}
+use lib.Bits.{bit_or}
+use lib.Pow.{shl_exact, pow-add}
 use lib.ListN.{length, get_or, set, length-set}
 use lib.Seq.{get_or-set_same, get_or-set_other}
-use borrow.Author.Tests.{eq-eqb, ne_eqb, lt-ltb, le-ltb}
-use Rattle.task.specs.Bounded.{upto}
-use Rattle.task.specs.Rules.{no_row, EffectRule}
-use Rattle.task.specs.Semantics.{Formula, Atom, sets, clears, Effect, empty, atomic, both, under, holds, same_atom, effcond}
-use Rattle.task.specs.Table.{Row, row_at, EffectKind, empty_kind, set_kind, clear_kind, both_kind, under_kind, unknown_effect, effect_kind}
-use Rattle.task.specs.Tree.{formula_of, effect_node, effect_of}
-use Rattle.task.specs.Inner.Rows.{EffectKept, EffectsDown}
-use Rattle.task.specs.Inner.Values.{bit, Values}
-use Rattle.task.proofs.Bounded.{length_upto, getD_upto}
-use Rattle.task.proofs.Trees.{effect_unfolds}
-use Rattle.state_codes.specs.Inner.Masks.{atom_at, Masked, kind_mask, row_mask, RowMasks, Maskable, RowMaskable}
-use Rattle.state_codes.proofs.Bits.{or_bit, power_bit, power_bits}
+use borrow.Author.Tests.{eq-eqb, ne_eqb}
+use Rattle.task.specs.Rules.{EffectRule}
+use Rattle.task.specs.Table.{row_at, EffectKind, empty_kind, set_kind, clear_kind, both_kind, under_kind, unknown_effect, effect_kind}
+use Rattle.task.specs.Inner.Rows.{EffectKept}
+use Rattle.state_codes.specs.Inner.Masks.{kind_mask, row_mask, RowMasks, Maskable, RowMaskable}
 
 -- the kinds that keep a rule, behind "both", are "under"
 rule_under :

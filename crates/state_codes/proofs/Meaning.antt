@@ -7,21 +7,21 @@ use mathlib.Core.Path.{◌≡◌, refl, sym, ap, ap₂, ◌∙◌}
 use mathlib.Core.Bool.{Bool, true, false, cond, ◌&&◌, ◌||◌}
 use mathlib.Core.List.{List}
 use lib.Bits.{bit_and, bit_or, bit_xor, differ, or_lt, or_mod, and_le_l, xor_lt}
-use lib.Dec.{eqb, ltb}
+use lib.Dec.{eqb}
 use lib.Pow.{pow-lt, pow-add, pow_pos, shr_le}
 use lib.ListN.{length, get_or}
 use lib.Seq.{ext_get_or}
 use borrow.Author.Tests.{eq-eqb, ne_eqb, lt-ltb, le-ltb}
 use Rattle.task.specs.Bounded.{upto}
 use Rattle.task.specs.Rules.{no_row, EffectRule}
-use Rattle.task.specs.Semantics.{Formula, Atom, sets, clears, Effect, empty, atomic, both, under, holds, same_atom, effcond, value_after, apply}
+use Rattle.task.specs.Semantics.{Formula, sets, clears, Effect, empty, atomic, both, under, holds, effcond, value_after, apply}
 use Rattle.task.specs.Table.{Row, row_at, EffectKind, empty_kind, set_kind, clear_kind, both_kind, under_kind, unknown_effect, effect_kind}
 use Rattle.task.specs.Tree.{formula_of, effect_node, effect_of}
 use Rattle.task.specs.Inner.Rows.{EffectKept, EffectsDown}
 use Rattle.task.specs.Inner.Values.{bit, Values}
 use Rattle.task.proofs.Bounded.{length_upto, getD_upto}
 use Rattle.task.proofs.Trees.{effect_unfolds}
-use Rattle.state_codes.specs.Inner.Masks.{atom_at, Masked, next_code, kind_mask, row_mask, RowMasks, Maskable}
+use Rattle.state_codes.specs.Inner.Masks.{atom_at, Masked, next_code, kind_mask, row_mask, RowMasks}
 use Rattle.state_codes.specs.Inner.States.{state_of}
 use Rattle.state_codes.proofs.Bits.{or_bit, and_bit, xor_bit, power_bit, power_bits, high_bit, low_bit, state_at}
 use Rattle.state_codes.proofs.States.{state_bits}

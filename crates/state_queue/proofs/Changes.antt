@@ -1,11 +1,9 @@
 -- What a queue gives and what a change of one state leaves of it. Assumes nothing.
-use Prim.Native.Nat.{ℕ, zero, suc, ◌+◌, ◌*◌, ◌/◌, ◌≤◌, ◌<◌}
+use Prim.Native.Nat.{ℕ, zero, suc, ◌+◌, ◌/◌, ◌≤◌, ◌<◌}
 use native.Mathlib.Omega.{arith}
-use native.Mathlib.Nat.{not-suc-le-zero}
 use native.Mathlib.Decide.{dec_lt, ℕ_discrete}
 use mathlib.Core.Path.{◌≡◌, refl, sym, ◌∙◌}
 use mathlib.Core.List.{List}
-use lib.ListN.{length, get_or}
 use Rattle.state_queue.specs.Inner.Queue.{key, winner, Over, itself, parent, Plays, Queue, Waits, Nearly, Changed}
 use Rattle.state_queue.proofs.Keys.{winner_state, winner_node}
 use Rattle.state_queue.proofs.Tournament.{over_trans, state_plays, waits_on, nearly_plays}

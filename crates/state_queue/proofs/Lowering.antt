@@ -123,21 +123,22 @@ module _ {n first first_key node : ℕ} {before words : List ℕ} (w : Lowering 
         }
 
     -- the state that comes first and its key, by whether the other comes before
-    module _ {other_key x k : ℕ} {A B : Type 0} (before-it : A → other_key < first_key) (not-before : B → first_key ≤ other_key) where
-      pub lowering-named : (A × (x ≡ other) × (k ≡ other_key)) ⊎ (B × (x ≡ first) × (k ≡ first_key)) → x < n
-      lowering-named (inl c) = rw c.1 lowering_other
-      lowering-named (inr c) = rw c.1 lowering_first
+    module _ {other_key x k : ℕ} where
+      pub lowering_named :
+          ((other_key < first_key) × (x ≡ other) × (k ≡ other_key)) ⊎ ((first_key ≤ other_key) × (x ≡ first) × (k ≡ first_key)) → x < n
+      lowering_named (inl c) = rw c.1 lowering_other
+      lowering_named (inr c) = rw c.1 lowering_first
 
-      pub lowering-on :
+      pub lowering_on :
           Roomy n words
           → other_key ≡ key words n other
-          → (A × (x ≡ other) × (k ≡ other_key)) ⊎ (B × (x ≡ first) × (k ≡ first_key))
+          → ((other_key < first_key) × (x ≡ other) × (k ≡ other_key)) ⊎ ((first_key ≤ other_key) × (x ≡ first) × (k ≡ first_key))
           → Lowering n before (set words (3 * n + node / 2) x) x k (node / 2)
-      lowering-on r e (inl c) =
-          let l = before-it c.0 in
+      lowering_on r e (inl c) =
+          let l = c.0 in
           rw (c.1, c.2) (stored r lowering_other e (chosen_beside words s w.names q (omega (arith, w.its_key, e, l))))
-      lowering-on r e (inr c) =
-          let l = not-before c.0 in
+      lowering_on r e (inr c) =
+          let l = c.0 in
           rw (c.1, c.2) (stored r lowering_first w.its_key (chosen words s w.names q (omega (arith, w.its_key, e, l))))
 
 -- at the root

@@ -1,17 +1,17 @@
 -- Nodes are set one after the other until all play: the steps of the three loops. Assumes nothing.
-use Prim.Native.Nat.{ℕ, ◌+◌, ◌-◌, ◌*◌, ◌/◌, ◌≤◌, ◌<◌}
+use Prim.Native.Nat.{ℕ, ◌+◌, ◌*◌, ◌/◌, ◌≤◌, ◌<◌}
 use native.Mathlib.Omega.{arith}
 use native.Mathlib.Decide.{dec_lt, ℕ_discrete}
-use mathlib.Core.Path.{◌≡◌, refl, sym, ap, ◌∙◌}
+use mathlib.Core.Path.{◌≡◌, refl, sym, ◌∙◌}
 use mathlib.Core.Bool.{Bool, true, false}
 use mathlib.Core.Logic.{◌⊎◌, inl, inr}
 use mathlib.Core.List.{List}
 use lib.Dec.{ltb}
 use lib.ListN.{length, get_or, set, length-set}
 use borrow.Author.Tests.{ltb-true, ltb-false}
-use Rattle.state_queue.specs.Inner.Queue.{key, winner, better, Over, itself, parent, Plays, Roomy, Queue, Sets, Waits, NearlyPlays, Nearly, Played}
-use Rattle.state_queue.proofs.Keys.{winner_state, better_other, better_first, key_front, stored_front, stored_key, stored_node, stored_other}
-use Rattle.state_queue.proofs.Tournament.{over_falls, over_parent, over_trans, state_plays, left_plays, right_plays, plays_on}
+use Rattle.state_queue.specs.Inner.Queue.{key, winner, better, Over, Plays, Roomy, Sets, Waits, Played}
+use Rattle.state_queue.proofs.Keys.{winner_state, better_other, better_first, stored_front, stored_key, stored_node, stored_other}
+use Rattle.state_queue.proofs.Tournament.{over_falls, over_parent, state_plays, left_plays, right_plays, plays_on}
 
 -- The nodes for which this holds play, and the words of the states are as they were.
 pub record Playing (n : ℕ) (before words : List ℕ) (holds : ℕ → Type 0) : Type 0 where

@@ -2,12 +2,12 @@
 use Prim.Native.Nat.{ℕ, ◌+◌, ◌*◌, ◌/◌, ◌≤◌, ◌<◌}
 use native.Mathlib.Omega.{arith}
 use native.Mathlib.Decide.{dec_le, ℕ_discrete}
-use mathlib.Core.Path.{◌≡◌, refl, sym, ◌∙◌}
+use mathlib.Core.Path.{◌≡◌, refl, ◌∙◌}
 use mathlib.Core.Logic.{◌⊎◌, inl, inr}
 use mathlib.Core.Bool.{true, false}
 use mathlib.Core.List.{List}
 use lib.ListN.{length, get_or, set, length-set}
-use Rattle.state_queue.specs.Inner.Queue.{key, winner, Over, itself, parent, Plays, Roomy, Queue, NearlyPlays, Nearly, Climbs, Climbed, named_already, named_now, other_stays, Played}
+use Rattle.state_queue.specs.Inner.Queue.{key, winner, Over, itself, parent, Roomy, NearlyPlays, Nearly, Climbs, Climbed, named_already, named_now, other_stays, Played}
 use Rattle.state_queue.proofs.Keys.{stored_front, stored_key, stored_node, stored_other}
 use Rattle.state_queue.proofs.Tournament.{over_parent, over_trans}
 use Rattle.state_queue.proofs.Playing.{Away, away_more, away_end}

@@ -1,7 +1,7 @@
 -- Reading the head: one law for each way out. Assumes nothing.
-use Prim.Native.Nat.{ℕ, suc, ◌*◌, ◌/◌, ◌%◌, ◌<◌, ◌≤◌}
+use Prim.Native.Nat.{ℕ, ◌*◌, ◌/◌, ◌<◌, ◌≤◌}
 use native.Mathlib.Omega.{arith}
-use mathlib.Core.Path.{◌≡◌, refl}
+use mathlib.Core.Path.{◌≡◌}
 use mathlib.Core.Bool.{true, false}
 use mathlib.Core.List.{List, [], ◌∷◌, ◌++◌}
 use lib.ListN.{length, get_or, drop}
@@ -11,7 +11,7 @@ use Rattle.task.specs.declared.Head.{Head}
 use Rattle.task.specs.Check.{counts_kept, goal_kept}
 use Rattle.task.specs.Table.{operator_width}
 use Rattle.file_format.specs.Bytes.{zeros, head_defaults}
-use Rattle.file_format.specs.Parse.{Parsed, parsed, unparsed, next, kept, field_read, fields_read, mapped_read}
+use Rattle.file_format.specs.Parse.{parsed, unparsed, next, kept, fields_read, mapped_read}
 use Rattle.file_format.specs.Reading.{Lengths, room, head_read, head_kept}
 use Rattle.task_file.proofs.Places.{byte_ends, byte_here}
 use Rattle.task_file.proofs.RowWords.{fields_split}

@@ -1,5 +1,5 @@
 -- What the words of a search say of each state, and what the functions on them ask and leave. Only the contracts of inner functions cite this file.
-use Rattle.std.specs.Prelude.{ℕ, ◌+◌, ◌*◌, ◌/◌, ◌%◌, ◌^◌, ◌≤◌, ◌<◌, ◌≡◌, Bool, true, false, List, [], ◌∷◌, ◌++◌, eqb, length, get_or}
+use Rattle.std.specs.Prelude.{ℕ, ◌+◌, ◌*◌, ◌^◌, ◌≤◌, ◌<◌, ◌≡◌, Bool, true, false, List, [], ◌∷◌, ◌++◌, eqb, length, get_or}
 use Rattle.task.specs.Table.{Task}
 use Rattle.task.specs.Rules.{Checked}
 use Rattle.task.specs.Run.{applicable, charge}

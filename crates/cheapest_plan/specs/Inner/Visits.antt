@@ -1,6 +1,6 @@
 -- What the functions of the search ask and leave: states are taken from the queue, the operators are stepped from each, and the best end is looked for.
 -- Only the contracts of inner functions cite this file. What a function leaves is said of every task that its tables and words hold.
-use Rattle.std.specs.Prelude.{ℕ, ◌+◌, ◌*◌, ◌≤◌, ◌<◌, ◌≡◌, Bool, true, false, List, length, get_or, drop}
+use Rattle.std.specs.Prelude.{ℕ, ◌+◌, ◌*◌, ◌≤◌, ◌<◌, ◌≡◌, Bool, true, false, List, length, get_or}
 use Rattle.task.specs.declared.Head.{Head}
 use Rattle.task.specs.Bounded.{upto}
 use Rattle.task.specs.Table.{Task, row_at, operator_at, operator_width}

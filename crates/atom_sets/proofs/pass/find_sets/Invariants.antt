@@ -1,0 +1,13 @@
+-- `find_sets` meets its contract: the sets of all rows; the words around them stay. Assumes nothing.
+use Prim.Native.Nat.{◌-◌}
+use native.Mathlib.Omega.{arith}
+use mathlib.Core.Path.{◌≡◌, refl, ◌∙◌}
+use lib.ListN.{length}
+use Rattle.atom_sets.proofs.Finds.{Finding, finding_none, finding_asks, finding_more, finding_all}
+use Rattle.atom_sets.proofs.pass.find_sets.Given as goal
+
+abbrev pub invariant-loop-i : goal.invariant-loop-i
+invariant-loop-i l = (length l.notes ≡ length l.initial.notes) × Finding l.frame l.effects l.initial.notes l.i l.notes
+
+abbrev pub decreases-loop-i : goal.decreases-loop-i
+decreases-loop-i l = l.frame.effects - l.i

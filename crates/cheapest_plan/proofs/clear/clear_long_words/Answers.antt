@@ -1,0 +1,29 @@
+-- `clear_long_words` meets its contract: all words 0. Assumes nothing.
+use native.Mathlib.Omega.{arith}
+use Rattle.task.proofs.Cleared.{cleared_none, cleared_more, cleared_all}
+use Rattle.cheapest_plan.proofs.clear.clear_long_words.Goals as goal
+
+pub loop-i-init : goal.loop-i-init
+loop-i-init c = cleared_none c.args.words.now
+
+pub offset_bounds-words-i : goal.offset_bounds-words-i
+offset_bounds-words-i c = omega (arith, c.well_formed)
+
+pub overflow_add-i : goal.overflow_add-i
+overflow_add-i c = omega (arith, c.loop-i.invariant)
+
+pub loop-i-smaller : goal.loop-i-smaller
+loop-i-smaller c = omega (arith, c.loop-i.invariant)
+
+pub loop-i-preserved : goal.loop-i-preserved
+loop-i-preserved c =
+    cleared_more c.args.words.now c.loop-i.words c.loop-i.i c.loop-i.invariant
+    c.loop-i-test.true
+
+pub shape_of-words : goal.shape_of-words
+shape_of-words c = c.loop-i.invariant.same
+
+pub returns : goal.returns
+returns c =
+    cleared_all c.args.words.now c.loop-i.words c.loop-i.i c.loop-i.invariant
+    c.loop-i-test.false

@@ -1,0 +1,17 @@
+-- `size_batch` meets its contract: a batch has an operator at least, and its columns are given. Assumes nothing.
+use native.Mathlib.Omega.{arith}
+use borrow.Author.Rules.{rules}
+use mathlib.Core.Path.{◌≡◌, refl, ◌∙◌}
+use Prim.Native.Nat.{◌+◌, ◌≤◌, ◌<◌}
+use lib.ListN.{length}
+use Rattle.effect_batches.specs.Inner.Numbers.{Renumbered}
+use Rattle.effect_batches.proofs.Numbers.{room_then, roots_fewer, renumbered_here, renumbered_again}
+use Rattle.effect_batches.proofs.begin.size_batch.Given as goal
+
+abbrev pub invariant-loop-columns : goal.invariant-loop-columns
+invariant-loop-columns l =
+    (length l.notes ≡ length l.initial.notes) × (0 < l.size) × (l.from + l.size ≤ l.count) × Renumbered l.frame.effects l.initial.notes l.notes l.columns
+
+abbrev pub decreases-loop-columns : goal.decreases-loop-columns
+decreases-loop-columns l =
+    l.size

@@ -1,0 +1,17 @@
+-- `find_first` meets its contract: a word names an operator that comes to its row. Assumes nothing.
+use native.Mathlib.Omega.{arith}
+use mathlib.Core.Path.{◌≡◌, refl, ◌∙◌}
+use Prim.Native.Nat.{◌≤◌}
+use lib.ListN.{length}
+use Rattle.effect_batches.specs.Inner.Firsts.{First}
+use Rattle.effect_batches.proofs.Firsts.{row_kept}
+use Rattle.effect_batches.proofs.Numbers.{roots_wider}
+use Rattle.effect_batches.proofs.first.find_first.Given as goal
+
+abbrev pub invariant-loop-i : goal.invariant-loop-i
+invariant-loop-i l =
+    (length l.first ≡ length l.initial.first) × (l.i ≤ l.initial.i) × First l.effects l.operators l.count l.first
+
+abbrev pub decreases-loop-i : goal.decreases-loop-i
+decreases-loop-i l =
+    l.i

@@ -1,0 +1,18 @@
+-- `meet_roots` meets its contract: each operator names its effect. Assumes nothing.
+use native.Mathlib.Omega.{arith}
+use borrow.Author.Rules.{rules}
+use mathlib.Core.Path.{◌≡◌, refl, ◌∙◌}
+use Prim.Native.Nat.{ℕ, ◌-◌}
+use mathlib.Core.List.{List}
+use lib.ListN.{length}
+use Rattle.effect_batches.specs.Inner.Firsts.{First}
+use Rattle.effect_batches.proofs.Firsts.{first_none, first_met, comes_root}
+use Rattle.effect_batches.proofs.first.meet_roots.Given as goal
+
+abbrev pub invariant-loop-k : goal.invariant-loop-k
+invariant-loop-k l =
+    (length l.first ≡ length l.initial.first) × ((effects : List ℕ) → First effects l.operators l.count l.first)
+
+abbrev pub decreases-loop-k : goal.decreases-loop-k
+decreases-loop-k l =
+    l.count - l.k
