@@ -2,7 +2,7 @@
 use Prim.Native.Nat.{ℕ, zero, suc, ◌+◌, ◌-◌, ◌*◌, ◌/◌, ◌^◌, ◌<◌, ◌≤◌}
 use native.Mathlib.Omega.{arith}
 use mathlib.Core.Path.{◌≡◌, refl, sym, ap, ◌∙◌, subst}
-use mathlib.Core.Bool.{Bool, true, false, cond}
+use mathlib.Core.Bool.{Bool, true, false}
 use mathlib.Core.List.{List, ◌++◌}
 use lib.ListN.{length, take, replicate, length-append}
 use lib.Pow.{pow_mono}
@@ -22,7 +22,7 @@ use Rattle.file_format.specs.Bytes.{word_bytes}
 use Rattle.file_format.specs.Reading.{Lengths, Verdict, rejected, reading}
 use Rattle.task_writer.specs.Inner.Putting.{Put}
 use Rattle.task_writer.proofs.Puts.{put_then}
-use Rattle.stepper.specs.Stepped.{first_of, step_scratch_kept}
+use Rattle.stepper.specs.Stepped.{step_scratch_kept}
 use Rattle.cheapest_plan.specs.declared.CheapestOutcome.{CheapestOutcome}
 use Rattle.cheapest_plan.specs.Cheapest.{Pick, no_plan, plan_of, cheapest}
 use Rattle.cheapest_plan.specs.Planned.{few_variables, search_scratch_kept, search_refusal, plan_refused, plan_written, plan_told, planned_by, planned, Planned, PlanGives}
@@ -32,7 +32,7 @@ use Rattle.layouts.proofs.LayWays.{put_padded, size}
 use Rattle.layouts.proofs.RunWays.{low_next}
 use Rattle.layouts.proofs.Sizes.{length_word_bytes}
 use Rattle.entry_tables.proofs.Reading.{ReadAs, same_reading}
-use Rattle.plan_entry.specs.Entry.{nothing_planned, plan_bytes, plan_laid, plan_picked, plan_number, plan_given, plan_entry_by, plan_entry, PlanEntry, PlanEntryGives}
+use Rattle.plan_entry.specs.Entry.{nothing_planned, plan_bytes, plan_laid, plan_picked, plan_number, plan_given, plan_entry_by, plan_entry, PlanEntryGives}
 use Rattle.plan_entry.specs.Inner.Giving.{FreePlan, PlanIn, small_plan, SmallPlan}
 
 -- the refusals before the search, in order

@@ -2,7 +2,6 @@
 use native.Mathlib.Omega.{arith}
 use borrow.Author.Tests.{lt-leb, le-leb}
 use Rattle.plan_entry.specs.Inner.Giving.{small_plan}
-use borrow.Author.Rules.{rules}
 use Rattle.plan_entry.proofs.call.is_small.Goals as goal
 
 pub returns-then-head-gt6 : goal.returns-then-head-gt6

@@ -3,7 +3,6 @@
 use lib.ListN.{length}
 use Rattle.entry_tables.specs.Own.{small}
 use Rattle.plan_entry.proofs.PlanWays.{plan_settled, plan_again}
-use borrow.Author.Rules.{rules}
 use Rattle.plan_entry.proofs.call.plan.Goals as goal
 
 pub returns-then-number-ne5 : goal.returns-then-number-ne5

@@ -1,6 +1,5 @@
 -- `plan_free` meets its contract: the search where nothing refuses it before it begins. Assumes nothing.
 use mathlib.Core.Path.{sym, ◌∙◌}
-use borrow.Author.Rules.{rules}
 use Rattle.plan_entry.proofs.call.plan_free.Goals as goal
 
 pub plan_small-requires : goal.plan_small-requires

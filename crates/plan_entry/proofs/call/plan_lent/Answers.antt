@@ -3,7 +3,6 @@
 use lib.ListN.{length}
 use Rattle.task.specs.Table.{lent}
 use Rattle.plan_entry.proofs.PlanWays.{free_of, found, found_plan, not_found}
-use borrow.Author.Rules.{rules}
 use Rattle.plan_entry.proofs.call.plan_lent.Goals as goal
 
 pub returns-then-outcome-ne0 : goal.returns-then-outcome-ne0

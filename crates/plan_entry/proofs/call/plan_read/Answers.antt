@@ -3,7 +3,6 @@ use mathlib.Core.Path.{sym, ◌∙◌}
 use lib.ListN.{length}
 use Rattle.task.specs.Table.{lent}
 use Rattle.plan_entry.proofs.PlanWays.{plan_kept, plan_not_begun}
-use borrow.Author.Rules.{rules}
 use Rattle.plan_entry.proofs.call.plan_read.Goals as goal
 
 pub returns-then-number-ne0 : goal.returns-then-number-ne0

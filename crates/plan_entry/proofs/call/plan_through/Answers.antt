@@ -6,7 +6,6 @@ use Rattle.task_file.specs.Outcome.{lengths}
 use Rattle.entry_tables.specs.Inner.Answers.{refused_number}
 use Rattle.entry_tables.proofs.Reading.{read_as, refused_as}
 use Rattle.plan_entry.proofs.PlanWays.{plan_read, plan_no_file}
-use borrow.Author.Rules.{rules}
 use Rattle.plan_entry.proofs.call.plan_through.Goals as goal
 
 pub returns-in_default : goal.returns-in_default

@@ -2,7 +2,6 @@
 use native.Mathlib.Omega.{arith}
 use Rattle.layouts.proofs.RunWays.{low_next}
 use Rattle.plan_entry.proofs.PlanWays.{too_long, gives_plan}
-use borrow.Author.Rules.{rules}
 use Rattle.plan_entry.proofs.giving.give_plan.Goals as goal
 
 pub returns-then-out-count : goal.returns-then-out-count

@@ -2,7 +2,6 @@
 use lib.ListN.{length}
 use Rattle.entry_tables.specs.Own.{small}
 use Rattle.read_entry.proofs.ReadWays.{read_settled, read_again}
-use borrow.Author.Rules.{rules}
 use Rattle.read_entry.proofs.call.read.Goals as goal
 
 pub returns-then-number-ne5 : goal.returns-then-number-ne5

@@ -6,7 +6,6 @@ use Rattle.task_file.specs.Outcome.{lengths}
 use Rattle.entry_tables.specs.Inner.Answers.{refused_number}
 use Rattle.entry_tables.proofs.Reading.{read_as, refused_as}
 use Rattle.read_entry.proofs.ReadWays.{lay_in, read_laid, read_refused}
-use borrow.Author.Rules.{rules}
 use Rattle.read_entry.proofs.call.read_through.Goals as goal
 
 pub returns-in_default : goal.returns-in_default

@@ -2,7 +2,6 @@
 use native.Mathlib.Omega.{arith}
 use borrow.Author.Tests.{lt-leb, le-leb}
 use Rattle.run_entry.specs.Inner.Giving.{small_run}
-use borrow.Author.Rules.{rules}
 use Rattle.run_entry.proofs.call.is_small.Goals as goal
 
 pub returns-then-bytes-gt512 : goal.returns-then-bytes-gt512

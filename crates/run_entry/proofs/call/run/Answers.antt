@@ -3,7 +3,6 @@
 use lib.ListN.{length}
 use Rattle.entry_tables.specs.Own.{small}
 use Rattle.run_entry.proofs.RunWays.{run_settled, not_run, run_again}
-use borrow.Author.Rules.{rules}
 use Rattle.run_entry.proofs.call.run.Goals as goal
 
 pub returns-then-number-ne5 : goal.returns-then-number-ne5

@@ -1,6 +1,5 @@
 -- `run_free` meets its contract: the run where nothing refuses it. Assumes nothing.
 use mathlib.Core.Path.{sym, ◌∙◌}
-use borrow.Author.Rules.{rules}
 use Rattle.run_entry.proofs.call.run_free.Goals as goal
 
 pub run_small-requires : goal.run_small-requires

@@ -1,6 +1,5 @@
 -- `run_from_small` meets its contract: the task in small tables: 3 KiB. Assumes nothing.
 use Rattle.entry_tables.specs.Own.{small}
-use borrow.Author.Rules.{rules}
 use Rattle.run_entry.proofs.call.run_from_small.Goals as goal
 
 pub returns : goal.returns

@@ -3,7 +3,6 @@ use native.Mathlib.Omega.{arith}
 use lib.ListN.{length}
 use Rattle.task.specs.Table.{lent}
 use Rattle.run_entry.proofs.RunWays.{result_room, run_free}
-use borrow.Author.Rules.{rules}
 use Rattle.run_entry.proofs.call.run_lent.Goals as goal
 
 pub decode-requires : goal.decode-requires

@@ -3,7 +3,6 @@ use mathlib.Core.Path.{sym, ◌∙◌}
 use lib.ListN.{length}
 use Rattle.task.specs.Table.{lent}
 use Rattle.run_entry.proofs.RunWays.{run_kept, run_refused}
-use borrow.Author.Rules.{rules}
 use Rattle.run_entry.proofs.call.run_read.Goals as goal
 
 pub returns-then-number-ne0 : goal.returns-then-number-ne0
