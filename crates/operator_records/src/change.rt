@@ -24,8 +24,7 @@ fn change_number(count: usize, number: usize, percent: u16) -> u16
 
 // Changes the percent of the operator with that number, and no other record; a refusal changes nothing. Thin: it asks
 // `change_number`, and stores.
-#[unsafe(no_mangle)]
-pub extern "C" fn set_percent(records: &mut [OperatorRecord], number: u16, percent: u16) -> u16
+pub fn set_percent(records: &mut [OperatorRecord], number: u16, percent: u16) -> u16
     ensures { ChangeGives (change records.old number percent) result records.new }
 {
     let at = number as usize;

@@ -1,5 +1,5 @@
-// Operator records (02, K2): one percent changed in a lent list, and ways between a table's rows and records. The calls are exported under their
-// plain names, so that a caller outside Rattle has them as well.
+// Operator records (02, K2): one percent changed in a lent list, and ways between a table's rows and records. Crate operator_records_c exports the
+// calls under their plain names, so that a caller outside Rattle has them as well.
 #![tactic(auto)]
 
 pub mod change;

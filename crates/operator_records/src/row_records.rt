@@ -8,8 +8,7 @@ use task::operator_rows::{
 };
 
 // The record of row `number` of an operator table; all words 0 where the table does not hold that row.
-#[unsafe(no_mangle)]
-pub extern "C" fn record_of(operators: &[u16], number: usize) -> OperatorRecord
+pub fn record_of(operators: &[u16], number: usize) -> OperatorRecord
     ensures { result ≡ row_record operators.now number }
 {
     if number < operators.len() / OPERATOR_WORDS {
@@ -30,8 +29,7 @@ pub extern "C" fn record_of(operators: &[u16], number: usize) -> OperatorRecord
 }
 
 // Stores a record as row `number` of an operator table; nothing changes where the table does not hold that row.
-#[unsafe(no_mangle)]
-pub extern "C" fn store_record(operators: &mut [u16], number: usize, row: OperatorRecord)
+pub fn store_record(operators: &mut [u16], number: usize, row: OperatorRecord)
     ensures { operators.new ≡ with_record operators.old number row }
 {
     if number < operators.len() / OPERATOR_WORDS {

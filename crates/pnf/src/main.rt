@@ -1,14 +1,35 @@
 // The program: compiles the task file on standard input and prints the compiled task's lines, or r and the number.
 #![tactic(auto)]
 
-use libc::{STDIN_FILENO, STDOUT_FILENO};
+ghost use Rattle.std.specs.Prelude.{◌≤◌, length, IfOk};
 
-// The buffer holds more than the 43,854 bytes of an input that its text can depend on (compile_text, proofs/TextWays: cut_text), so
-// what is not read changes nothing. The text goes out by one write.
-fn main() {
-    let mut input = io::large_buffer();
-    let length = io::read_full(STDIN_FILENO, &mut input);
+use std::io;
+use std::io::{Read, Write};
+
+// More than the 43,854 bytes of an input that its text can depend on (compile_text, proofs/TextWays: cut_text), so what is not read changes
+// nothing.
+const INPUT_BYTES: usize = 65536;
+
+// Reads until the buffer is full or the input ends: how many bytes stand at the start of the buffer. Each read but the last gives a byte at least.
+fn read_full<R: Read>(input: &mut R, buffer: &mut [u8]) -> io::Result<usize>
+    ensures { IfOk result (λ n. n ≤ length buffer.new) }
+{
+    let mut done = 0;
+    for _ in 0..buffer.len() {
+        let count = input.read(&mut buffer[done..])?;
+        if count == 0 {
+            break;
+        }
+        done += count;
+    }
+    Ok(done)
+}
+
+// The text goes out by one write.
+fn main(rt: HostRuntime) -> io::Result<()> {
+    let mut input = [0u8; INPUT_BYTES];
+    let length = read_full(&mut rt.stdin(), &mut input)?;
     let mut text = [0u8; compile_text::MOST_TEXT];
     let end = compile_text::text_of(&input[..length], &mut text);
-    io::write_all(STDOUT_FILENO, &text[..end]);
+    rt.stdout().write_all(&text[..end])
 }

@@ -1,0 +1,6 @@
+-- As many bytes were put as the buffer has, at most.
+use Rattle.std.proofs.Common.{◌≤◌, length}
+use Rattle.pnf.proofs.read_full.Given as goal
+
+abbrev pub invariant-loop : goal.invariant-loop
+invariant-loop g l = l.done ≤ length l.buffer
