@@ -10,7 +10,6 @@ use lib.ListN.{length, get_or, take}
 use lib.Seq.{take-length, take-append_seam}
 use borrow.Author.Tests.{lt-ltb, le-ltb}
 use Rattle.task.specs.Table.{Lent, Task, task_of}
-use Rattle.task.specs.Check.{refusal}
 use Rattle.task.specs.Semantics.{apply}
 use Rattle.task.specs.Run.{operator_of, effect_of_operator, goal_holds, applicable, charge, Progress, after_step, Stop, ended, stopped, Run, answer, run_on, plain_run, is_plan}
 use Rattle.task.proofs.Runs.{Does, none, more, Follows, charged, steps_done, ended_run, stopped_run, goal_told, each_follows, one_more, plan_exactly_if as plan-by-stop, length_after, becomes_one, becomes_zero, keeps}
@@ -22,7 +21,7 @@ use Rattle.entry_tables.specs.Own.{own}
 use Rattle.layouts.specs.Layout.{low_bytes, numbers_of, run_number, flag, run_bytes}
 use Rattle.layouts.proofs.RunBytes.{plan_byte}
 use Rattle.run_entry.specs.Entry.{run_given, run_entry_by, run_entry}
-use Rattle.claims.specs.Told.{costs, permitted, goal_true, ChangedBy, StepTold, Done, StoppedAt, StopTold}
+use Rattle.claims.specs.Told.{costs, goal_true, ChangedBy, StepTold, Done, StoppedAt, StopTold}
 
 -- Unless a row before the last of the table of refusals refuses the call, the run gives exactly the plain run's answers and leaves exactly its
 -- state; scratch ends as 0.

@@ -11,7 +11,7 @@ use lib.Seq.{take_at, length-take-le}
 use lib.Dec.{leb}
 use borrow.Author.Tests.{leb-true, le-leb}
 use Rattle.task.specs.Table.{Task}
-use Rattle.task.specs.Rules.{Checked, Rules}
+use Rattle.task.specs.Rules.{Checked}
 use Rattle.task.specs.Check.{unless}
 use Rattle.task.specs.Words.{joined, head_of, padded}
 use Rattle.file_format.specs.Bytes.{word_bytes, file_of}

@@ -1,11 +1,10 @@
 -- The smallest file (01, "The task file"): goal true, hexadecimal 04 01 00 10. Assumes nothing.
-use Prim.Native.Nat.{ℕ}
 use mathlib.Core.Path.{◌≡◌, refl}
-use mathlib.Core.List.{List, [], ◌∷◌, ◌++◌}
+use mathlib.Core.List.{[], ◌∷◌}
 use Rattle.task.specs.Bounded.{upto}
 use Rattle.task.specs.Table.{Task}
 use Rattle.task.specs.Words.{joined, head_of}
-use Rattle.file_format.specs.Bytes.{file_of, head_bytes, head_fields, map_of, number, present, fields_bytes, field_bytes, word_bytes, row_bytes, operator_bytes, packed, bytes_for}
+use Rattle.file_format.specs.Bytes.{file_of, head_bytes, head_fields, map_of, number, present, fields_bytes, field_bytes, word_bytes, row_bytes, packed, bytes_for}
 
 abbrev pub smallest : Task
 smallest =

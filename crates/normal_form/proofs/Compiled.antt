@@ -11,7 +11,7 @@ use lib.Dec.{leb, eqb, eqb-suc-zero}
 use borrow.Author.Tests.{leb-true, leb-false, le-leb, lt-leb, eqb-true, eqb-false, eq-eqb, ne_eqb}
 use Rattle.task.specs.declared.Head.{Head}
 use Rattle.task.specs.Table.{Lent, Task, task_of, operator_width}
-use Rattle.task.specs.Check.{counts_kept, goal_kept, room as has_room, long_enough, initial_kept, twins_kept, formulas_kept, effects_kept, operators_number, unless, refusal}
+use Rattle.task.specs.Check.{counts_kept, room as has_room, unless, refusal}
 use Rattle.task.proofs.Own.{refusal_own, not_between}
 use Rattle.task.specs.Rules.{Checked}
 use Rattle.task.specs.Run.{effect_of_operator}

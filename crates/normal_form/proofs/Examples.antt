@@ -3,7 +3,7 @@ use Prim.Native.Nat.{ℕ}
 use mathlib.Core.Path.{◌≡◌, refl}
 use mathlib.Core.List.{[], ◌∷◌}
 use Rattle.task.specs.Bounded.{upto}
-use Rattle.task.specs.Table.{Row, Operator, Lent, Task, formula_kind, effect_kind, row_at, operator_at, task_of, operator}
+use Rattle.task.specs.Table.{Row, Lent, Task, formula_kind, effect_kind, row_at, operator_at, task_of, operator}
 use Rattle.task.specs.Tree.{formula_node, formula_within, formula_of, effect_node, effect_within, effect_of}
 use Rattle.task.specs.Run.{operator_of, effect_of_operator}
 use Rattle.normal_form.specs.Builder.{give, bind, each, place, including, same_row, row, twin, variable_row, twin_row, start, choice, join_as, join, pair}

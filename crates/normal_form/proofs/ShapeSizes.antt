@@ -14,7 +14,7 @@ use Rattle.normal_form.specs.Growth.{Grows, Steady}
 use Rattle.normal_form.specs.Image.{image}
 use Rattle.normal_form.specs.Conditions.{condition}
 use Rattle.normal_form.specs.Operators.{Changes, changes_of, built_operator, parts}
-use Rattle.normal_form.specs.Finished.{built, finished}
+use Rattle.normal_form.specs.Finished.{built}
 use Rattle.normal_form.proofs.Growth.{longer, grows_refl, grows_trans, steady_give, steady_bind}
 use Rattle.normal_form.proofs.Steady.{steady_image, steady_condition, steady_deletes, steady_changes, steady_operator}
 

@@ -1,5 +1,5 @@
 -- What an operator of words is charged at most: cost 65,535 at 200 percent. Assumes nothing.
-use Prim.Native.Nat.{ℕ, ◌*◌, ◌≤◌}
+use Prim.Native.Nat.{◌*◌, ◌≤◌}
 use native.Mathlib.Nat.{mul-le-mul}
 use native.Mathlib.Omega.{arith}
 use Rattle.task.specs.Table.{Operator}

@@ -1,8 +1,7 @@
 -- The numbers in order: one law for each way out of the check. Each takes the tests before it as passed. Assumes nothing.
 use Prim.Native.Nat.{ℕ, zero, suc}
 use mathlib.Core.Path.{◌≡◌, refl, sym, ap, ◌∙◌}
-use mathlib.Core.Bool.{Bool, true, false, not, ◌&&◌}
-use borrow.Author.Tests.{not-true, not-false}
+use mathlib.Core.Bool.{Bool, true, false, ◌&&◌}
 use Rattle.task.specs.Bounded.{every, or_else, first_number}
 use Rattle.task.specs.Table.{Lent}
 use Rattle.task.specs.Check.{counts_kept, goal_kept, long_enough, initial_kept, twins_kept, formulas_kept, effects_kept, operators_number, unless, refusal}

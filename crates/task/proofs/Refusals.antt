@@ -12,7 +12,7 @@ use Rattle.task.specs.Bounded.{every}
 use Rattle.task.specs.declared.Head.{Head}
 use Rattle.task.specs.declared.Table.{Table}
 use Rattle.task.specs.declared.Table.TheVariants.{Formulas, Effects, Operators}
-use Rattle.task.specs.Table.{Lent, operator_width, formula_kind, effect_kind, row_at, operator_at, row_part, part}
+use Rattle.task.specs.Table.{Lent, operator_width, formula_kind, effect_kind, row_at, operator_at, part}
 use Rattle.task.specs.Inner.Tables.{words_at, words_number, row_number}
 use Rattle.task.specs.Check.{counts_kept, long_enough, room, twin_kept, formula_words_kept, effect_words_kept}
 use Rattle.task.proofs.Bounded.{and_both}

@@ -1,5 +1,5 @@
 -- What the exported step and run leave, from what `stepped` and `ran` yield.
-use Rattle.std.specs.Prelude.{ℕ, ◌≡◌, Bool, List, [], ◌∷◌}
+use Rattle.std.specs.Prelude.{ℕ, ◌≡◌, List, [], ◌∷◌}
 use Rattle.plan.specs.Outcome.{Stepped, Ran}
 use Rattle.stepper.specs.declared.StepOutcome.{StepOutcome}
 use Rattle.plan.specs.declared.outcome.RunOutcome.{RunOutcome}

@@ -4,7 +4,7 @@ use Rattle.task.specs.declared.Head.{Head}
 use Rattle.task.specs.declared.Table.{Table}
 use Rattle.task.specs.declared.Table.TheVariants.{Formulas, Effects, Operators}
 use Rattle.task.specs.declared.TableRow.{TableRow}
-use Rattle.task.specs.Table.{Row, Operator, operator_width, operator, row_at, operator_at}
+use Rattle.task.specs.Table.{Row, operator_width, operator, row_at, operator_at}
 use Rattle.task.specs.Check.{unless, formula_kept, effect_kept, operator_number}
 use Rattle.task.specs.Inner.Stored.{three, operator_stored}
 

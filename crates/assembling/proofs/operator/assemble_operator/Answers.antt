@@ -1,6 +1,5 @@
 -- `assemble_operator` meets its contract: operator o of the source, its record being w and its changes recorded from k on, behind so many effect rows. Assumes
 -- nothing.
-use borrow.Author.Rules.{rules}
 use Rattle.formula_builder.specs.Inner.Held.{row_of}
 use Rattle.assembling.proofs.Operators.{operator_written}
 use Rattle.task.specs.Table.{operator_at}

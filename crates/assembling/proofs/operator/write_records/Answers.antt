@@ -1,24 +1,18 @@
 -- `write_records` meets its contract: the rules of the changes recorded from k up to an end, behind what stands. Assumes nothing.
-use Prim.Native.Nat.{◌+◌, ◌-◌, ◌≤◌}
-use mathlib.Core.Path.{◌≡◌, refl, ◌∙◌}
+use mathlib.Core.Path.{refl, ◌∙◌}
 use native.Mathlib.Omega.{arith}
-use lib.ListN.{length}
-use Rattle.normal_form.specs.Assembly.{rules}
-use Rattle.rule_writer.specs.Inner.Writes.{Ready, Writes}
 use Rattle.rule_writer.proofs.Writing.{writes_placed}
-use Rattle.assembling.specs.Inner.Assembles.{changes_between, ForTwins}
 use Rattle.assembling.proofs.Operators.{change_below, records_none, records_more, records_all}
 use Rattle.assembling.proofs.operator.write_records.Goals as goal
 
 pub loop-i-init : goal.loop-i-init
-loop-i-init c =
-    (
-      omega arith,
-      c.requires.in_order.order,
-      refl,
-      c.requires.ready.rows,
-      λ twins p. records_none c.args.frame.variables twins c.args.records.now c.args.k c.requires.ready.rows,
-    )
+loop-i-init c = (
+  omega arith,
+  c.requires.in_order.order,
+  refl,
+  c.requires.ready.rows,
+  λ twins p. records_none c.args.frame.variables twins c.args.records.now c.args.k c.requires.ready.rows,
+)
 
 pub overflow_add-i : goal.overflow_add-i
 overflow_add-i c = omega (arith, c.loop-i-test.true, c.requires.in_order.limit)
@@ -59,10 +53,9 @@ pub shape_of-out : goal.shape_of-out
 shape_of-out c = c.loop-i.invariant.2
 
 pub returns : goal.returns
-returns c =
-    (
-      c.loop-i.invariant.3,
-      λ twins p.
-          records_all c.args.frame.variables twins c.args.records.now c.args.k c.loop-i.i c.args.end
-          (omega (arith, c.loop-i.invariant.1, c.loop-i-test.false)) (c.loop-i.invariant.4 twins p),
-    )
+returns c = (
+  c.loop-i.invariant.3,
+  λ twins p.
+      records_all c.args.frame.variables twins c.args.records.now c.args.k c.loop-i.i c.args.end
+      (omega (arith, c.loop-i.invariant.1, c.loop-i-test.false)) (c.loop-i.invariant.4 twins p),
+)

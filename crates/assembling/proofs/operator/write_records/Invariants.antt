@@ -1,13 +1,10 @@
 -- `write_records` meets its contract: the rules of the changes recorded from k up to an end, behind what stands. Assumes nothing.
-use Prim.Native.Nat.{◌+◌, ◌-◌, ◌≤◌}
-use mathlib.Core.Path.{◌≡◌, refl, ◌∙◌}
-use native.Mathlib.Omega.{arith}
+use Prim.Native.Nat.{◌-◌, ◌≤◌}
+use mathlib.Core.Path.{◌≡◌}
 use lib.ListN.{length}
 use Rattle.normal_form.specs.Assembly.{rules}
 use Rattle.rule_writer.specs.Inner.Writes.{Ready, Writes}
-use Rattle.rule_writer.proofs.Writing.{writes_placed}
 use Rattle.assembling.specs.Inner.Assembles.{changes_between, ForTwins}
-use Rattle.assembling.proofs.Operators.{change_below, records_none, records_more, records_all}
 use Rattle.assembling.proofs.operator.write_records.Given as goal
 
 abbrev pub invariant-loop-i : goal.invariant-loop-i

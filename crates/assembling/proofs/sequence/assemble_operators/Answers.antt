@@ -1,5 +1,4 @@
 -- `assemble_operators` meets its contract: the same, once the places of the twins are found. Assumes nothing.
-use borrow.Author.Rules.{rules}
 use lib.ListN.{take}
 use Rattle.assembling.proofs.sequence.assemble_operators.Goals as goal
 

@@ -1,10 +1,7 @@
 -- `assemble_placed` meets its contract: writes the rules and the rows of the first count operators into tables that are all 0, the places of the
 -- twins being known; stops at the first operator whose rules have no room. Assumes nothing.
-use Prim.Native.Nat.{◌+◌, ◌-◌, ◌≤◌}
-use mathlib.Core.Path.{◌≡◌, refl, ◌∙◌}
+use mathlib.Core.Path.{refl, ◌∙◌}
 use native.Mathlib.Omega.{arith}
-use lib.ListN.{length}
-use Rattle.assembling.specs.Inner.Assembles.{begins_at, assembled_in, ForTwins, Holding}
 use Rattle.assembling.proofs.Operators.{begins_none, begins_next, assembling_begun, asks_operator, assembling_more, assembling_stop, assembling_done}
 use Rattle.assembling.proofs.sequence.assemble_placed.Goals as goal
 

@@ -1,5 +1,4 @@
 -- `lacks` meets its contract: whether the set of row e lacks set v, or clear v. Assumes nothing.
-use borrow.Author.Rules.{rules}
 use native.Mathlib.Omega.{arith}
 use Rattle.atom_sets.proofs.Places.{place_within, byte_small, lacks_by}
 use Rattle.atom_sets.proofs.bits.lacks.Goals as goal

@@ -1,5 +1,4 @@
 -- `set_word` meets its contract: the word of variable v in the set of row e. Assumes nothing.
-use borrow.Author.Rules.{rules}
 use native.Mathlib.Omega.{arith}
 use Rattle.atom_sets.proofs.Places.{product_small, place_is}
 use Rattle.atom_sets.proofs.bits.set_word.Goals as goal

@@ -1,5 +1,4 @@
 -- `sets_end` meets its contract: where the sets end. Assumes nothing.
-use borrow.Author.Rules.{rules}
 use native.Mathlib.Omega.{arith}
 use Rattle.atom_sets.proofs.Places.{product_small, end_is}
 use Rattle.atom_sets.proofs.bits.sets_end.Goals as goal

@@ -1,9 +1,7 @@
 -- `copy` meets its contract: the n words at i become those at a. Assumes nothing.
-use Prim.Native.Nat.{◌+◌, ◌-◌, ◌%◌, ◌≤◌}
 use native.Mathlib.Omega.{arith}
-use mathlib.Core.Path.{◌≡◌, refl, ◌∙◌}
-use lib.ListN.{length}
-use Rattle.atom_sets.specs.Inner.Finds.{copied, Written}
+use mathlib.Core.Path.{refl, ◌∙◌}
+use Rattle.atom_sets.specs.Inner.Finds.{copied}
 use Rattle.atom_sets.proofs.Words.{written_none, room_four, copied_more, written_all}
 use Rattle.atom_sets.proofs.pass.copy.Goals as goal
 
@@ -25,14 +23,13 @@ pub overflow_add-k : goal.overflow_add-k
 overflow_add-k c = omega (arith, c.requires, c.well_formed)
 
 pub loop-k-preserved : goal.loop-k-preserved
-loop-k-preserved c =
-    (
-      omega (arith, c.requires.0, c.loop-k.invariant),
-      omega (arith, c.loop-k.invariant),
-      c.copy_four.auto.notes ∙ c.loop-k.invariant.2,
-      copied_more c.loop-k.k c.requires.1 (omega (arith, c.requires.0, c.loop-k.invariant)) c.loop-k.invariant.3
-          c.copy_four.ensures,
-    )
+loop-k-preserved c = (
+  omega (arith, c.requires.0, c.loop-k.invariant),
+  omega (arith, c.loop-k.invariant),
+  c.copy_four.auto.notes ∙ c.loop-k.invariant.2,
+  copied_more c.loop-k.k c.requires.1 (omega (arith, c.requires.0, c.loop-k.invariant)) c.loop-k.invariant.3
+      c.copy_four.ensures,
+)
 
 pub shape_of-notes : goal.shape_of-notes
 shape_of-notes c = c.loop-k.invariant.2

@@ -1,10 +1,8 @@
 -- `copy` meets its contract: the n words at i become those at a. Assumes nothing.
-use Prim.Native.Nat.{◌+◌, ◌-◌, ◌%◌, ◌≤◌}
-use native.Mathlib.Omega.{arith}
-use mathlib.Core.Path.{◌≡◌, refl, ◌∙◌}
+use Prim.Native.Nat.{◌-◌, ◌%◌, ◌≤◌}
+use mathlib.Core.Path.{◌≡◌}
 use lib.ListN.{length}
 use Rattle.atom_sets.specs.Inner.Finds.{copied, Written}
-use Rattle.atom_sets.proofs.Words.{written_none, room_four, copied_more, written_all}
 use Rattle.atom_sets.proofs.pass.copy.Given as goal
 
 abbrev pub invariant-loop-k : goal.invariant-loop-k

@@ -1,5 +1,4 @@
 -- `copy_four` meets its contract: the four words at i become those at a. Assumes nothing.
-use borrow.Author.Rules.{rules}
 use native.Mathlib.Omega.{arith}
 use lib.ListN.{length-set}
 use Rattle.atom_sets.proofs.Words.{copied_four}

@@ -1,9 +1,7 @@
 -- `find_sets` meets its contract: the sets of all rows; the words around them stay. Assumes nothing.
-use Prim.Native.Nat.{◌-◌}
 use native.Mathlib.Omega.{arith}
-use mathlib.Core.Path.{◌≡◌, refl, ◌∙◌}
-use lib.ListN.{length}
-use Rattle.atom_sets.proofs.Finds.{Finding, finding_none, finding_asks, finding_more, finding_all}
+use mathlib.Core.Path.{refl, ◌∙◌}
+use Rattle.atom_sets.proofs.Finds.{finding_none, finding_asks, finding_more, finding_all}
 use Rattle.atom_sets.proofs.pass.find_sets.Goals as goal
 
 pub loop-i-init : goal.loop-i-init
@@ -16,11 +14,10 @@ pub overflow_add-i : goal.overflow_add-i
 overflow_add-i c = omega (arith, c.requires.limit)
 
 pub loop-i-preserved : goal.loop-i-preserved
-loop-i-preserved c =
-    (
-      c.set_of.auto.notes ∙ c.loop-i.invariant.0,
-      finding_more c.requires (omega arith) c.loop-i.invariant.1 c.set_of.ensures,
-    )
+loop-i-preserved c = (
+  c.set_of.auto.notes ∙ c.loop-i.invariant.0,
+  finding_more c.requires (omega arith) c.loop-i.invariant.1 c.set_of.ensures,
+)
 
 pub shape_of-notes : goal.shape_of-notes
 shape_of-notes c = c.loop-i.invariant.0

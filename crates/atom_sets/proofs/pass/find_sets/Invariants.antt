@@ -1,9 +1,8 @@
 -- `find_sets` meets its contract: the sets of all rows; the words around them stay. Assumes nothing.
 use Prim.Native.Nat.{◌-◌}
-use native.Mathlib.Omega.{arith}
-use mathlib.Core.Path.{◌≡◌, refl, ◌∙◌}
+use mathlib.Core.Path.{◌≡◌}
 use lib.ListN.{length}
-use Rattle.atom_sets.proofs.Finds.{Finding, finding_none, finding_asks, finding_more, finding_all}
+use Rattle.atom_sets.proofs.Finds.{Finding}
 use Rattle.atom_sets.proofs.pass.find_sets.Given as goal
 
 abbrev pub invariant-loop-i : goal.invariant-loop-i

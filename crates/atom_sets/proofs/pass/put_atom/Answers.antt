@@ -1,5 +1,4 @@
 -- `put_atom` meets its contract: the word of variable v in the set of row i gets the one bit of set v, or of clear v. Assumes nothing.
-use borrow.Author.Rules.{rules}
 use native.Mathlib.Omega.{arith}
 use Rattle.atom_sets.proofs.Places.{place_within, byte_small}
 use Rattle.atom_sets.proofs.Finds.{put_by}

@@ -1,5 +1,4 @@
 -- `set_of` meets its contract: the set of row i, from those of the rows that it names. Assumes nothing.
-use borrow.Author.Rules.{rules}
 use native.Mathlib.Omega.{arith}
 use Rattle.atom_sets.proofs.Places.{whole_fours}
 use Rattle.atom_sets.proofs.Finds.{both_lower, under_lower, row_within, atom_within, row_room, found_both, found_under, found_empty, found_atom}

@@ -1,5 +1,4 @@
 -- `set_start` meets its contract: where the set of row e begins. Assumes nothing.
-use borrow.Author.Rules.{rules}
 use native.Mathlib.Omega.{arith}
 use Rattle.atom_sets.proofs.Places.{product_small}
 use Rattle.atom_sets.proofs.Finds.{start_is}

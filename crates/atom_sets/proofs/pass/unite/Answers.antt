@@ -1,9 +1,8 @@
 -- `unite` meets its contract: the n words at i become those at a together with those at b. Assumes nothing.
-use Prim.Native.Nat.{◌+◌, ◌-◌, ◌%◌, ◌≤◌}
+use Prim.Native.Nat.{◌+◌, ◌≤◌}
 use native.Mathlib.Omega.{arith}
-use mathlib.Core.Path.{◌≡◌, refl, ◌∙◌}
-use lib.ListN.{length}
-use Rattle.atom_sets.specs.Inner.Finds.{united, Written}
+use mathlib.Core.Path.{refl, ◌∙◌}
+use Rattle.atom_sets.specs.Inner.Finds.{united}
 use Rattle.atom_sets.proofs.Words.{written_none, room_four, united_more, written_all}
 use Rattle.atom_sets.proofs.pass.unite.Goals as goal
 

@@ -1,5 +1,4 @@
 -- `unite_four` meets its contract: the four words at i become those at a together with those at b. Assumes nothing.
-use borrow.Author.Rules.{rules}
 use native.Mathlib.Omega.{arith}
 use lib.ListN.{length-set}
 use Rattle.atom_sets.proofs.Words.{united_four}

@@ -1,5 +1,4 @@
 -- `take_goal` meets its contract: the goal's image, once all operators are taken. Assumes nothing.
-use borrow.Author.Rules.{rules}
 use mathlib.Core.Path.{refl, sym, ◌∙◌}
 use mathlib.Core.Bool.{true≢false}
 use Rattle.building.proofs.goal.take_goal.Goals as goal

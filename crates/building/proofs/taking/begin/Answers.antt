@@ -1,5 +1,4 @@
 -- `begin` meets its contract: false and true, in a table that is all 0. Assumes nothing.
-use borrow.Author.Rules.{rules}
 use Rattle.building.proofs.Begun.{no_beginning, beginning}
 use Rattle.building.proofs.taking.begin.Goals as goal
 

@@ -1,6 +1,5 @@
 -- `take_operator` meets its contract: the next operator: its precondition, then what it does to each variable that it touches, which is recorded for
 -- the rules. Assumes nothing.
-use borrow.Author.Rules.{rules}
 use mathlib.Core.Path.{refl, ◌∙◌}
 use native.Mathlib.Omega.{arith}
 use Rattle.building.proofs.Begun.{leaves_stopped, took_full, asks_operator, opens, took-over, took-many, took}

@@ -1,5 +1,4 @@
 -- `keep_change` meets its contract: A change behind k of them, unless it brings no rule; past the room it is counted only. Assumes nothing.
-use borrow.Author.Rules.{rules}
 use mathlib.Core.Path.{sym, ◌∙◌}
 use native.Mathlib.Omega.{arith}
 use Rattle.rule_writer.specs.Inner.Writes.{changes_in}

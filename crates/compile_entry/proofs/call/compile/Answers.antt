@@ -4,7 +4,6 @@ use Rattle.compile_entry.specs.Entry.{compile_entry}
 use Rattle.entry_tables.specs.Own.{small}
 use Rattle.compiled_file.proofs.FileWays.{same_outputs}
 use Rattle.compile_entry.proofs.CompileWays.{compile_settled}
-use borrow.Author.Rules.{rules}
 use Rattle.compile_entry.proofs.call.compile.Goals as goal
 
 pub returns-then-number-ne5 : goal.returns-then-number-ne5

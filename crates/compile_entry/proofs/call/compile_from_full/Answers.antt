@@ -1,7 +1,6 @@
 -- `compile_from_full` meets its contract: the source in tables with room for every task: 51 KiB. Assumes nothing.
 use Rattle.entry_tables.specs.Own.{own}
 use Rattle.compile_entry.specs.Entry.{compile_entry, compile_entry_by}
-use borrow.Author.Rules.{rules}
 use Rattle.compile_entry.proofs.call.compile_from_full.Goals as goal
 
 pub returns : goal.returns

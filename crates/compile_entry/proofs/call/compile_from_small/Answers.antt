@@ -1,6 +1,5 @@
 -- `compile_from_small` meets its contract: the source in small tables: 3 KiB. Assumes nothing.
 use Rattle.entry_tables.specs.Own.{small}
-use borrow.Author.Rules.{rules}
 use Rattle.compile_entry.proofs.call.compile_from_small.Goals as goal
 
 pub returns : goal.returns

@@ -6,7 +6,6 @@ use Rattle.task_file.specs.Outcome.{lengths}
 use Rattle.entry_tables.specs.Inner.Answers.{refused_number}
 use Rattle.entry_tables.proofs.Reading.{read_as, refused_as}
 use Rattle.compile_entry.proofs.CompileWays.{compile_read, compile_no_file}
-use borrow.Author.Rules.{rules}
 use Rattle.compile_entry.proofs.call.read_and_compile.Goals as goal
 
 pub returns-in_default : goal.returns-in_default

@@ -1,5 +1,4 @@
 -- `begin_next` meets its contract: without room it does nothing. Assumes nothing.
-use borrow.Author.Rules.{rules}
 use Rattle.compile_parts.proofs.Batched.{batch_asks, batch_begun, batch_full}
 use Rattle.compile_parts.proofs.batch.begin_next.Goals as goal
 

@@ -1,11 +1,6 @@
 -- `take_batch` meets its contract: a batch begins, and its operators are taken in order. Assumes nothing.
-use Prim.Native.Nat.{◌-◌, ◌≤◌}
 use native.Mathlib.Omega.{arith}
-use mathlib.Core.Path.{◌≡◌, refl, ◌∙◌}
-use lib.ListN.{length}
-use Rattle.formula_builder.specs.Inner.Held.{store}
-use Rattle.variable_changes.specs.Inner.Stands.{Leaves}
-use Rattle.building.specs.Inner.Taken.{size_at, Taken}
+use mathlib.Core.Path.{refl, ◌∙◌}
 use Rattle.compile_parts.proofs.Batched.{still_taken, next_asks}
 use Rattle.compile_parts.proofs.batch.take_batch.Goals as goal
 

@@ -1,7 +1,6 @@
 -- `copy_words` meets its contract: the first n words. Assumes nothing.
 use Prim.Native.Nat.{◌-◌}
-use native.Mathlib.Omega.{arith}
-use Rattle.rule_writer.proofs.Values.{Copied, copied_none, copied_more, copied_all}
+use Rattle.rule_writer.proofs.Values.{Copied}
 use Rattle.compile_parts.proofs.copy.copy_words.Given as goal
 
 abbrev pub invariant-loop-i : goal.invariant-loop-i

@@ -1,5 +1,4 @@
 -- `finish` meets its contract: rules and operators, initial values, and the rows that were built. Assumes nothing.
-use borrow.Author.Rules.{rules}
 use native.Mathlib.Omega.{arith}
 use mathlib.Core.Path.{refl}
 use Rattle.compile_parts.proofs.Written.{nothing_built, rules_over, all_written}

@@ -1,14 +1,7 @@
 -- `build` meets its contract: sets and first operators are found, then begin, the operators batch by batch, and the goal. Assumes nothing.
-use borrow.Author.Rules.{rules}
-use Prim.Native.Nat.{ℕ, ◌-◌, ◌≤◌}
 use native.Mathlib.Omega.{arith}
-use mathlib.Core.Path.{◌≡◌, refl, ◌∙◌}
-use lib.ListN.{length, get_or}
-use Rattle.formula_builder.specs.Inner.Held.{store}
-use Rattle.atom_sets.specs.Inner.Sets.{sets_end}
-use Rattle.variable_changes.specs.Inner.Stands.{Leaves}
+use mathlib.Core.Path.{refl, ◌∙◌}
 use Rattle.variable_changes.proofs.Standing.{leaves_same}
-use Rattle.building.specs.Inner.Taken.{size_at, Taken}
 use Rattle.compile_parts.proofs.Asked.{finds, finds_first, known, none_kept, noted, first_taken, next_batch, last_asks, all_built}
 use Rattle.compile_parts.proofs.whole.build.Goals as goal
 

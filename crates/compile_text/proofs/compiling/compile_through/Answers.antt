@@ -1,5 +1,4 @@
 -- `compile_through` meets its contract: through tables that are lent. Assumes nothing.
-use borrow.Author.Rules.{rules}
 use Rattle.task.specs.Table.{lent}
 use Rattle.compile_text.proofs.CompileWays.{number_given, outputs_pass, lines_given}
 use Rattle.compile_text.proofs.compiling.compile_through.Goals as goal

@@ -1,6 +1,5 @@
 -- `text_through` meets its contract: through tables that are lent. Assumes nothing.
 use mathlib.Core.Path.{ap, ◌∙◌}
-use borrow.Author.Rules.{rules}
 use Rattle.task_file.proofs.ReadWays.{bytes_from}
 use Rattle.entry_tables.specs.Inner.Answers.{refused_number}
 use Rattle.compile_text.proofs.TextWays.{task_read, file_refused, text_refused, text_read}

@@ -3,7 +3,6 @@ use lib.ListN.{length}
 use Rattle.task.specs.Table.{lent}
 use Rattle.entry_tables.specs.Own.{own_room}
 use Rattle.compiled_file.proofs.CompileWays.{full_given}
-use borrow.Author.Rules.{rules}
 use Rattle.compiled_file.proofs.compiling.compile_full.Goals as goal
 
 pub returns : goal.returns

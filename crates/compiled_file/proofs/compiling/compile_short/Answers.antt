@@ -5,7 +5,6 @@ use Rattle.task.specs.Table.{lent, task_of}
 use Rattle.compiled_file.specs.Filed.{compiled_file}
 use Rattle.compiled_file.proofs.FileWays.{same_outputs}
 use Rattle.compiled_file.proofs.CompileWays.{small_settled}
-use borrow.Author.Rules.{rules}
 use Rattle.compiled_file.proofs.compiling.compile_short.Goals as goal
 
 pub returns-then-number-ne15 : goal.returns-then-number-ne15

@@ -1,6 +1,5 @@
 -- `compile_small` meets its contract: through small room: 9 KiB. Assumes nothing.
 use Rattle.compiled_file.specs.Inner.Giving.{small_room}
-use borrow.Author.Rules.{rules}
 use Rattle.compiled_file.proofs.compiling.compile_small.Goals as goal
 
 pub returns : goal.returns

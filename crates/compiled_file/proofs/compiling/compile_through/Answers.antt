@@ -7,7 +7,6 @@ use Rattle.compiler.specs.declared.CompileAnswer.{CompileAnswer}
 use Rattle.compiler.specs.Left.{answer_of}
 use Rattle.entry_tables.specs.Inner.Answers.{refused_compile}
 use Rattle.compiled_file.proofs.CompileWays.{no_task_compiled, compiled_kept, compiled_given}
-use borrow.Author.Rules.{rules}
 use Rattle.compiled_file.proofs.compiling.compile_through.Goals as goal
 
 pub returns-in_default : goal.returns-in_default

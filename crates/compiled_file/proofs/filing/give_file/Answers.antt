@@ -2,7 +2,6 @@
 use native.Mathlib.Omega.{arith}
 use Rattle.task.specs.Table.{lent}
 use Rattle.compiled_file.proofs.FileWays.{short_result, short_out, gives_file}
-use borrow.Author.Rules.{rules}
 use Rattle.compiled_file.proofs.filing.give_file.Goals as goal
 
 pub returns-then-res-lt4 : goal.returns-then-res-lt4

@@ -1,5 +1,4 @@
 -- `compile` meets its contract: a number, with all tables 0, or the compiled task. Assumes nothing.
-use borrow.Author.Rules.{rules}
 use Prim.Native.Nat.{ℕ}
 use mathlib.Core.Path.{ap, ◌∙◌}
 use lib.ListN.{replicate}

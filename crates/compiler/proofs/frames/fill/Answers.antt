@@ -1,5 +1,4 @@
 -- `fill` meets its contract: for a small source the small frame first, else the large one. Assumes nothing.
-use borrow.Author.Rules.{rules}
 use mathlib.Core.Path.{◌∙◌}
 use Rattle.compiler.proofs.Tried.{small_asks, tried, large-asks, filled-again}
 use Rattle.compiler.proofs.frames.fill.Goals as goal

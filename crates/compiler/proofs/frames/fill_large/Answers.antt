@@ -1,5 +1,4 @@
 -- `fill_large` meets its contract: every source, with a large frame. Assumes nothing.
-use borrow.Author.Rules.{rules}
 use Rattle.std.proofs.Common.{ℕ, ◌≡◌, List, length, replicate, refl, ap}
 use mathlib.Core.Path.{sym, ◌∙◌}
 use mathlib.Core.Bool.{true≢false}

@@ -1,5 +1,4 @@
 -- `fill_small` meets its contract: a small source, with a small frame. Assumes nothing.
-use borrow.Author.Rules.{rules}
 use mathlib.Core.Path.{◌∙◌}
 use Rattle.compiler.proofs.Filled.{finish_asks, filled}
 use Rattle.compiler.proofs.Owned.{owns_small}

@@ -1,5 +1,4 @@
 -- `first_number` meets its contract: the first number in order, or 0. Assumes nothing.
-use borrow.Author.Rules.{rules}
 use mathlib.Core.Path.{sym, ◌∙◌}
 use Rattle.task.specs.Table.{lent}
 use Rattle.compiler.specs.Inner.Sizes.{room_by}

@@ -1,5 +1,4 @@
 -- `most_twins` meets its contract: as many twins as the limit and the lengths of the tables for initial values and originals allow. Assumes nothing.
-use borrow.Author.Rules.{rules}
 use Rattle.compiler.proofs.Lesser.{most_twins}
 use Rattle.compiler.proofs.sizes.most_twins.Goals as goal
 

@@ -1,5 +1,4 @@
 -- `atom` meets its contract: true for the atom itself, else false; negated, the other way round. Assumes nothing.
-use borrow.Author.Rules.{rules}
 use mathlib.Core.Path.{sym, ◌∙◌}
 use Rattle.conditions.specs.Inner.Conditions.{atom_row}
 use Rattle.conditions.proofs.atom.atom.Goals as goal

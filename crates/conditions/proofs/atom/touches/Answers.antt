@@ -1,5 +1,4 @@
 -- `touches` meets its contract: whether an effect's row is the target's atom itself. Assumes nothing.
-use borrow.Author.Rules.{rules}
 use Rattle.task.specs.Table.{effect_kind}
 use Rattle.conditions.proofs.Atoms.{touch_other, touch_clear, touch_set}
 use Rattle.conditions.proofs.atom.touches.Goals as goal

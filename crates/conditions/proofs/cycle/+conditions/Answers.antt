@@ -1,6 +1,4 @@
 -- The cycle of `condition`, `built`, `both`, `condition_if`, `under` meets its contracts. Assumes nothing.
-use Prim.Native.Nat.{ℕ, ◌+◌, ◌*◌, ◌<◌}
-use borrow.Author.Rules.{rules}
 use borrow.Author.Tests.{eq-eqb, ne_eqb}
 use native.Mathlib.Omega.{arith}
 use mathlib.Core.Path.{sym, ◌∙◌}
@@ -16,11 +14,10 @@ both-read_row-w-requires t c =
     omega (arith, c.requires.0.effect_source.words, c.requires.0.effect)
 
 pub both-condition_if-l-requires : goal.both-condition_if-l-requires
-both-condition_if-l-requires t c =
-    (
-      omega (arith, (effects_lower c.requires.0 c.requires.1 c.read_row-w.result c.read_row-w.ensures).0),
-      left_asks c.requires.0 c.requires.1 c.read_row-w.result c.read_row-w.ensures,
-    )
+both-condition_if-l-requires t c = (
+  omega (arith, (effects_lower c.requires.0 c.requires.1 c.read_row-w.result c.read_row-w.ensures).0),
+  left_asks c.requires.0 c.requires.1 c.read_row-w.result c.read_row-w.ensures,
+)
 
 pub both-returns-then-l : goal.both-returns-then-l
 both-returns-then-l t c =
@@ -28,11 +25,10 @@ both-returns-then-l t c =
     (eq-eqb _ 65535 c.if-l.true)
 
 pub both-condition_if-r-requires : goal.both-condition_if-r-requires
-both-condition_if-r-requires t c =
-    (
-      omega (arith, (effects_lower c.requires.0 c.requires.1 c.read_row-w.result c.read_row-w.ensures).1),
-      right-asks c.requires.0 c.requires.1 c.read_row-w.result c.read_row-w.ensures c.condition_if-l.ensures (ne_eqb _ 65535 c.if-l.false) c.condition_if-l.auto.scratch,
-    )
+both-condition_if-r-requires t c = (
+  omega (arith, (effects_lower c.requires.0 c.requires.1 c.read_row-w.result c.read_row-w.ensures).1),
+  right-asks c.requires.0 c.requires.1 c.read_row-w.result c.read_row-w.ensures c.condition_if-l.ensures (ne_eqb _ 65535 c.if-l.false) c.condition_if-l.auto.scratch,
+)
 
 pub both-returns-then-r : goal.both-returns-then-r
 both-returns-then-r t c =
@@ -64,28 +60,26 @@ built-read_row-w-requires t c =
     omega (arith, c.requires.0.effect_source.words, c.requires.0.effect)
 
 pub built-both-requires : goal.built-both-requires
-built-both-requires t c =
-    (
-      omega arith,
-      (
-        c.requires.0,
-        is_both c.requires.0 c.read_row-w.result c.read_row-w.ensures c.if-w-eq3.true,
-      ),
-    )
+built-both-requires t c = (
+  omega arith,
+  (
+    c.requires.0,
+    is_both c.requires.0 c.read_row-w.result c.read_row-w.ensures c.if-w-eq3.true,
+  ),
+)
 
 pub built-returns-then-w-eq3 : goal.built-returns-then-w-eq3
 built-returns-then-w-eq3 t c =
     c.both.ensures
 
 pub built-under-requires : goal.built-under-requires
-built-under-requires t c =
-    (
-      omega arith,
-      (
-        c.requires.0,
-        is_under c.requires.0 c.read_row-w.result c.read_row-w.ensures c.requires.1 c.if-w-eq3.false,
-      ),
-    )
+built-under-requires t c = (
+  omega arith,
+  (
+    c.requires.0,
+    is_under c.requires.0 c.read_row-w.result c.read_row-w.ensures c.requires.1 c.if-w-eq3.false,
+  ),
+)
 
 pub built-returns : goal.built-returns
 built-returns t c =
@@ -116,11 +110,10 @@ condition-returns-then-r t c =
     c.built-r.ensures
 
 pub condition-keep-requires : goal.condition-keep-requires
-condition-keep-requires t c =
-    (
-      kept_asks (asks_next _ c.requires c.built-r.ensures (ne_eqb _ 65535 c.if-r.false) c.built-r.auto.scratch c.requires.effect),
-      small_row c.built-r.ensures.builds (ne_eqb _ 65535 c.if-r.false),
-    )
+condition-keep-requires t c = (
+  kept_asks (asks_next _ c.requires c.built-r.ensures (ne_eqb _ 65535 c.if-r.false) c.built-r.auto.scratch c.requires.effect),
+  small_row c.built-r.ensures.builds (ne_eqb _ 65535 c.if-r.false),
+)
 
 pub condition-returns : goal.condition-returns
 condition-returns t c =
@@ -148,11 +141,10 @@ under-read_row-w-requires t c =
     omega (arith, c.requires.0.effect_source.words, c.requires.0.effect)
 
 pub under-condition-s-requires : goal.under-condition-s-requires
-under-condition-s-requires t c =
-    (
-      omega (arith, (inner_lower c.requires.0 c.requires.1 c.read_row-w.result c.read_row-w.ensures).1),
-      inner_asks c.requires.0 c.requires.1 c.read_row-w.result c.read_row-w.ensures,
-    )
+under-condition-s-requires t c = (
+  omega (arith, (inner_lower c.requires.0 c.requires.1 c.read_row-w.result c.read_row-w.ensures).1),
+  inner_asks c.requires.0 c.requires.1 c.read_row-w.result c.read_row-w.ensures,
+)
 
 pub under-returns-then-s : goal.under-returns-then-s
 under-returns-then-s t c =

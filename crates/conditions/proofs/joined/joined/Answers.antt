@@ -1,5 +1,4 @@
 -- `joined` meets its contract: the join of rows l and r for row e, "and" or "or": what is kept, or made and kept. Assumes nothing.
-use borrow.Author.Rules.{rules}
 use mathlib.Core.Path.{refl}
 use Rattle.formula_builder.specs.Inner.Held.{framed}
 use Rattle.conditions.proofs.Joins.{join_ready, join_small, joined_kept, joined_made}

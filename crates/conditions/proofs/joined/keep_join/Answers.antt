@@ -1,5 +1,4 @@
 -- `keep_join` meets its contract: keeps x, the join of rows l and r for row e, if the target is plain and there was room. Assumes nothing.
-use borrow.Author.Rules.{rules}
 use native.Mathlib.Omega.{arith}
 use lib.ListN.{length-set}
 use borrow.Author.Tests.{ne_eqb}

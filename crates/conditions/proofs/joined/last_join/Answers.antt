@@ -1,5 +1,4 @@
 -- `last_join` meets its contract: what is kept of the join of rows l and r for row e: its row plus 1, or 0. Assumes nothing.
-use borrow.Author.Rules.{rules}
 use native.Mathlib.Omega.{arith}
 use Rattle.formula_builder.specs.Inner.Held.{framed}
 use Rattle.conditions.proofs.Joins.{rejoins_none, rejoins_kept, join_room}

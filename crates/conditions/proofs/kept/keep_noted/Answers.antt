@@ -1,5 +1,4 @@
 -- `keep_noted` meets its contract: keeps the row of the condition of target t and effect e, if the notes have a word for it. Assumes nothing.
-use borrow.Author.Rules.{rules}
 use native.Mathlib.Omega.{arith}
 use Rattle.formula_builder.specs.Inner.Held.{framed}
 use Rattle.conditions.proofs.Notes.{keep_kept, keep_unkept}

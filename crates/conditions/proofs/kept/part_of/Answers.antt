@@ -1,5 +1,4 @@
 -- `part_of` meets its contract: which of its variable's words in a column is a target's. Assumes nothing.
-use borrow.Author.Rules.{rules}
 use native.Mathlib.Omega.{arith}
 use Rattle.conditions.proofs.Notes.{byte_small, part_made}
 use Rattle.conditions.proofs.kept.part_of.Goals as goal

@@ -1,5 +1,4 @@
 -- `place` meets its contract: the word of the notes that keeps the condition of target t and effect e; 0, if none does. Assumes nothing.
-use borrow.Author.Rules.{rules}
 use native.Mathlib.Omega.{arith}
 use lib.ListN.{get_or}
 use Rattle.formula_builder.specs.Inner.Held.{framed}

@@ -1,5 +1,4 @@
 -- `recall_noted` meets its contract: what the notes keep of target t and effect e: its row plus 1, or 0. Assumes nothing.
-use borrow.Author.Rules.{rules}
 use native.Mathlib.Omega.{arith}
 use Rattle.formula_builder.specs.Inner.Held.{framed}
 use Rattle.conditions.proofs.Notes.{recall_kept, recall_unkept}

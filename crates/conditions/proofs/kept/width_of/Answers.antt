@@ -1,6 +1,5 @@
 -- `width_of` meets its contract: how many words each of so many variables has in a column: where there are many, more columns are worth more than the
 -- duals. Assumes nothing.
-use borrow.Author.Rules.{rules}
 use Rattle.conditions.proofs.Notes.{width_three, width_two}
 use Rattle.conditions.proofs.kept.width_of.Goals as goal
 

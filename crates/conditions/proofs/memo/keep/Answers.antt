@@ -1,5 +1,4 @@
 -- `keep` meets its contract: keeps the row of the condition of target t and effect e. Assumes nothing.
-use borrow.Author.Rules.{rules}
 use native.Mathlib.Omega.{arith}
 use lib.ListN.{length-set}
 use Rattle.formula_builder.specs.Inner.Held.{framed}

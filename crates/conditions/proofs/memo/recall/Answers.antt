@@ -1,5 +1,4 @@
 -- `recall` meets its contract: what is known of target t and effect e: its row plus 1, or 0. Assumes nothing.
-use borrow.Author.Rules.{rules}
 use mathlib.Core.Path.{◌∙◌}
 use Rattle.formula_builder.specs.Inner.Held.{framed}
 use Rattle.conditions.proofs.Memos.{recall_row, recall_behind}

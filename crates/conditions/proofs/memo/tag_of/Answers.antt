@@ -1,5 +1,4 @@
 -- `tag_of` meets its contract: the tag of a target: no other target has it, and it is not 0. Assumes nothing.
-use borrow.Author.Rules.{rules}
 use native.Mathlib.Omega.{arith}
 use Rattle.conditions.proofs.Notes.{byte_small}
 use Rattle.conditions.proofs.Memos.{tag_made}

@@ -1,8 +1,6 @@
 -- `begin_batch` meets its contract: the notes stay right, and the rows that are listed have words of earlier operators. Assumes nothing.
-use borrow.Author.Rules.{rules}
 use native.Mathlib.Omega.{arith}
 use mathlib.Core.Path.{◌∙◌}
-use Rattle.atom_sets.specs.Inner.Sets.{sets_end}
 use Rattle.effect_batches.proofs.Numbers.{forgets, lists, noted_anew}
 use Rattle.effect_batches.proofs.begin.begin_batch.Goals as goal
 

@@ -1,5 +1,4 @@
 -- `forget` meets its contract: nothing is kept any more. Assumes nothing.
-use borrow.Author.Rules.{rules}
 use Rattle.effect_batches.proofs.Numbers.{forgot}
 use mathlib.Core.Path.{refl}
 use Rattle.effect_batches.proofs.begin.forget.Goals as goal

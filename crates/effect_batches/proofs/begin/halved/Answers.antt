@@ -1,5 +1,4 @@
 -- `halved` meets its contract: only two operators or more are halved. Assumes nothing.
-use borrow.Author.Rules.{rules}
 use mathlib.Core.Path.{sym}
 use mathlib.Core.Bool.{true≢false}
 use Rattle.effect_batches.proofs.begin.halved.Goals as goal

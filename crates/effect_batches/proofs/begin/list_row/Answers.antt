@@ -1,5 +1,4 @@
 -- `list_row` meets its contract: a row that is listed has a word of an earlier operator. Assumes nothing.
-use borrow.Author.Rules.{rules}
 use native.Mathlib.Omega.{arith}
 use Rattle.effect_batches.proofs.Numbers.{listed_next}
 use Rattle.effect_batches.proofs.begin.list_row.Goals as goal

@@ -1,9 +1,6 @@
 -- `list_rows` meets its contract: each row that is listed has a word of an earlier operator. Assumes nothing.
 use native.Mathlib.Omega.{arith}
-use mathlib.Core.Path.{◌≡◌, refl, ◌∙◌}
-use Prim.Native.Nat.{◌-◌, ◌≤◌}
-use lib.ListN.{length}
-use Rattle.effect_batches.specs.Inner.Numbers.{Listed}
+use mathlib.Core.Path.{refl, ◌∙◌}
 use Rattle.effect_batches.proofs.Numbers.{listed_none}
 use Rattle.effect_batches.proofs.begin.list_rows.Goals as goal
 

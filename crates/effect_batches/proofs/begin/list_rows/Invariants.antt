@@ -1,10 +1,8 @@
 -- `list_rows` meets its contract: each row that is listed has a word of an earlier operator. Assumes nothing.
-use native.Mathlib.Omega.{arith}
-use mathlib.Core.Path.{◌≡◌, refl, ◌∙◌}
+use mathlib.Core.Path.{◌≡◌}
 use Prim.Native.Nat.{◌-◌, ◌≤◌}
 use lib.ListN.{length}
 use Rattle.effect_batches.specs.Inner.Numbers.{Listed}
-use Rattle.effect_batches.proofs.Numbers.{listed_none}
 use Rattle.effect_batches.proofs.begin.list_rows.Given as goal
 
 abbrev pub invariant-loop-e : goal.invariant-loop-e

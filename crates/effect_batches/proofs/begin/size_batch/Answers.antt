@@ -1,10 +1,6 @@
 -- `size_batch` meets its contract: a batch has an operator at least, and its columns are given. Assumes nothing.
 use native.Mathlib.Omega.{arith}
-use borrow.Author.Rules.{rules}
-use mathlib.Core.Path.{◌≡◌, refl, ◌∙◌}
-use Prim.Native.Nat.{◌+◌, ◌≤◌, ◌<◌}
-use lib.ListN.{length}
-use Rattle.effect_batches.specs.Inner.Numbers.{Renumbered}
+use mathlib.Core.Path.{refl, ◌∙◌}
 use Rattle.effect_batches.proofs.Numbers.{room_then, roots_fewer, renumbered_here, renumbered_again}
 use Rattle.effect_batches.proofs.begin.size_batch.Goals as goal
 

@@ -1,11 +1,8 @@
 -- `size_batch` meets its contract: a batch has an operator at least, and its columns are given. Assumes nothing.
-use native.Mathlib.Omega.{arith}
-use borrow.Author.Rules.{rules}
-use mathlib.Core.Path.{◌≡◌, refl, ◌∙◌}
+use mathlib.Core.Path.{◌≡◌}
 use Prim.Native.Nat.{◌+◌, ◌≤◌, ◌<◌}
 use lib.ListN.{length}
 use Rattle.effect_batches.specs.Inner.Numbers.{Renumbered}
-use Rattle.effect_batches.proofs.Numbers.{room_then, roots_fewer, renumbered_here, renumbered_again}
 use Rattle.effect_batches.proofs.begin.size_batch.Given as goal
 
 abbrev pub invariant-loop-columns : goal.invariant-loop-columns

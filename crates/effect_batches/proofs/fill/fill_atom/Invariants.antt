@@ -1,11 +1,9 @@
 -- `fill_atom` meets its contract: filling rows for one atom adds nothing. Assumes nothing.
-use native.Mathlib.Omega.{arith}
-use mathlib.Core.Path.{◌≡◌, refl, ◌∙◌}
+use mathlib.Core.Path.{◌≡◌}
 use Prim.Native.Nat.{◌-◌}
 use lib.ListN.{length}
 use Rattle.formula_builder.specs.Inner.Held.{store, framed}
 use Rattle.effect_batches.specs.Inner.Filling.{Filled}
-use Rattle.effect_batches.proofs.Filling.{filled_none, filled_then, row_fills}
 use Rattle.effect_batches.proofs.fill.fill_atom.Given as goal
 
 abbrev pub invariant-loop-k : goal.invariant-loop-k

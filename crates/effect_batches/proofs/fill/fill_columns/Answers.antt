@@ -1,11 +1,6 @@
 -- `fill_columns` meets its contract: filling the columns of rows that were built adds nothing. Assumes nothing.
 use native.Mathlib.Omega.{arith}
-use borrow.Author.Rules.{rules}
-use mathlib.Core.Path.{◌≡◌, refl, ◌∙◌}
-use Prim.Native.Nat.{◌-◌}
-use lib.ListN.{length}
-use Rattle.formula_builder.specs.Inner.Held.{store, framed}
-use Rattle.effect_batches.specs.Inner.Filling.{Filled}
+use mathlib.Core.Path.{refl, ◌∙◌}
 use Rattle.effect_batches.proofs.Filling.{filled_none, filled_then, fills_framed, filled_framed, atom_fills}
 use Rattle.effect_batches.proofs.fill.fill_columns.Goals as goal
 

@@ -1,12 +1,9 @@
 -- `fill_columns` meets its contract: filling the columns of rows that were built adds nothing. Assumes nothing.
-use native.Mathlib.Omega.{arith}
-use borrow.Author.Rules.{rules}
-use mathlib.Core.Path.{◌≡◌, refl, ◌∙◌}
+use mathlib.Core.Path.{◌≡◌}
 use Prim.Native.Nat.{◌-◌}
 use lib.ListN.{length}
 use Rattle.formula_builder.specs.Inner.Held.{store, framed}
 use Rattle.effect_batches.specs.Inner.Filling.{Filled}
-use Rattle.effect_batches.proofs.Filling.{filled_none, filled_then, fills_framed, filled_framed, atom_fills}
 use Rattle.effect_batches.proofs.fill.fill_columns.Given as goal
 
 abbrev pub invariant-loop-a : goal.invariant-loop-a

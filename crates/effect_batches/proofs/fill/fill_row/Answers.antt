@@ -1,5 +1,4 @@
 -- `fill_row` meets its contract: the condition was built, so nothing is added. Assumes nothing.
-use borrow.Author.Rules.{rules}
 use Rattle.effect_batches.proofs.Filling.{row_asks, row_in_set, row_filled, filled_none}
 use Rattle.effect_batches.proofs.fill.fill_row.Goals as goal
 

@@ -1,9 +1,6 @@
 -- `find_first` meets its contract: a word names an operator that comes to its row. Assumes nothing.
 use native.Mathlib.Omega.{arith}
-use mathlib.Core.Path.{◌≡◌, refl, ◌∙◌}
-use Prim.Native.Nat.{◌≤◌}
-use lib.ListN.{length}
-use Rattle.effect_batches.specs.Inner.Firsts.{First}
+use mathlib.Core.Path.{refl, ◌∙◌}
 use Rattle.effect_batches.proofs.Firsts.{row_kept}
 use Rattle.effect_batches.proofs.Numbers.{roots_wider}
 use Rattle.effect_batches.proofs.first.find_first.Goals as goal

@@ -1,11 +1,8 @@
 -- `find_first` meets its contract: a word names an operator that comes to its row. Assumes nothing.
-use native.Mathlib.Omega.{arith}
-use mathlib.Core.Path.{◌≡◌, refl, ◌∙◌}
+use mathlib.Core.Path.{◌≡◌}
 use Prim.Native.Nat.{◌≤◌}
 use lib.ListN.{length}
 use Rattle.effect_batches.specs.Inner.Firsts.{First}
-use Rattle.effect_batches.proofs.Firsts.{row_kept}
-use Rattle.effect_batches.proofs.Numbers.{roots_wider}
 use Rattle.effect_batches.proofs.first.find_first.Given as goal
 
 abbrev pub invariant-loop-i : goal.invariant-loop-i

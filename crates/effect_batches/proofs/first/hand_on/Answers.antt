@@ -1,5 +1,4 @@
 -- `hand_on` meets its contract: a row hands its word on to the rows that it names. Assumes nothing.
-use borrow.Author.Rules.{rules}
 use native.Mathlib.Omega.{arith}
 use Rattle.effect_batches.proofs.Firsts.{names_right, names_left, first_met, comes_below}
 use Rattle.effect_batches.proofs.first.hand_on.Goals as goal

@@ -1,5 +1,4 @@
 -- `meet` meets its contract: the word of a row is as it was, or that of the referrer. Assumes nothing.
-use borrow.Author.Rules.{rules}
 use Rattle.effect_batches.proofs.Firsts.{meets_new, meets_old}
 use Rattle.effect_batches.proofs.first.meet.Goals as goal
 

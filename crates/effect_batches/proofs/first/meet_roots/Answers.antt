@@ -1,11 +1,6 @@
 -- `meet_roots` meets its contract: each operator names its effect. Assumes nothing.
 use native.Mathlib.Omega.{arith}
-use borrow.Author.Rules.{rules}
-use mathlib.Core.Path.{◌≡◌, refl, ◌∙◌}
-use Prim.Native.Nat.{ℕ, ◌-◌}
-use mathlib.Core.List.{List}
-use lib.ListN.{length}
-use Rattle.effect_batches.specs.Inner.Firsts.{First}
+use mathlib.Core.Path.{refl, ◌∙◌}
 use Rattle.effect_batches.proofs.Firsts.{first_none, first_met, comes_root}
 use Rattle.effect_batches.proofs.first.meet_roots.Goals as goal
 

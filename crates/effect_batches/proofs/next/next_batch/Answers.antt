@@ -1,5 +1,4 @@
 -- `next_batch` meets its contract: the batch begins, and filling its columns adds nothing. Assumes nothing.
-use borrow.Author.Rules.{rules}
 use Rattle.effect_batches.proofs.Covering.{batch_fills}
 use Rattle.effect_batches.proofs.next.next_batch.Goals as goal
 

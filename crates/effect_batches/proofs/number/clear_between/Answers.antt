@@ -1,9 +1,7 @@
 -- `clear_between` meets its contract: the words from one on to another become 0. Assumes nothing.
 use native.Mathlib.Omega.{arith}
 use mathlib.Core.Path.{◌≡◌, refl}
-use Prim.Native.Nat.{◌-◌, ◌≤◌}
-use lib.ListN.{length, length-set}
-use Rattle.effect_batches.specs.Inner.Numbers.{Cleared}
+use lib.ListN.{length-set}
 use Rattle.effect_batches.proofs.Numbers.{cleared_none, cleared_more}
 use Rattle.effect_batches.proofs.number.clear_between.Goals as goal
 

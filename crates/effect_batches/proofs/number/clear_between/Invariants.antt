@@ -1,10 +1,8 @@
 -- `clear_between` meets its contract: the words from one on to another become 0. Assumes nothing.
-use native.Mathlib.Omega.{arith}
-use mathlib.Core.Path.{◌≡◌, refl}
+use mathlib.Core.Path.{◌≡◌}
 use Prim.Native.Nat.{◌-◌, ◌≤◌}
-use lib.ListN.{length, length-set}
+use lib.ListN.{length}
 use Rattle.effect_batches.specs.Inner.Numbers.{Cleared}
-use Rattle.effect_batches.proofs.Numbers.{cleared_none, cleared_more}
 use Rattle.effect_batches.proofs.number.clear_between.Given as goal
 
 abbrev pub invariant-loop-i : goal.invariant-loop-i

@@ -1,5 +1,4 @@
 -- `name` meets its contract: a row gets the next column, or keeps what it has. Assumes nothing.
-use borrow.Author.Rules.{rules}
 use Rattle.effect_batches.proofs.Numbers.{numbered_none, numbered_next}
 use Rattle.effect_batches.proofs.number.name.Goals as goal
 

@@ -1,5 +1,4 @@
 -- `name_below` meets its contract: the rows that a row names get the next columns, or keep what they have. Assumes nothing.
-use borrow.Author.Rules.{rules}
 use native.Mathlib.Omega.{arith}
 use Rattle.effect_batches.proofs.Firsts.{names_right, names_left}
 use Rattle.effect_batches.proofs.Numbers.{numbered_none, numbered_more, numbered_then, names_row}

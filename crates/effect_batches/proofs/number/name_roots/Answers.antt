@@ -1,10 +1,7 @@
 -- `name_roots` meets its contract: the rows that operators name get columns, no others. Assumes nothing.
 use native.Mathlib.Omega.{arith}
-use borrow.Author.Rules.{rules}
-use mathlib.Core.Path.{◌≡◌, refl, ◌∙◌}
-use Prim.Native.Nat.{◌-◌, ◌+◌, ◌≤◌}
-use lib.ListN.{length}
-use Rattle.effect_batches.specs.Inner.Numbers.{Numbered}
+use mathlib.Core.Path.{refl, ◌∙◌}
+use Prim.Native.Nat.{◌+◌}
 use Rattle.effect_batches.proofs.Numbers.{numbered_none, numbered_then, renumbered, root_below, root_asks}
 use Rattle.effect_batches.proofs.number.name_roots.Goals as goal
 

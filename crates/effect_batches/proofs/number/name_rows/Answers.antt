@@ -1,9 +1,7 @@
 -- `name_rows` meets its contract: the rows that rows of the batch name get the next columns. Assumes nothing.
 use native.Mathlib.Omega.{arith}
-use mathlib.Core.Path.{◌≡◌, refl, ◌∙◌}
-use Prim.Native.Nat.{◌*◌, ◌-◌, ◌≤◌}
-use lib.ListN.{length}
-use Rattle.effect_batches.specs.Inner.Numbers.{Numbered}
+use mathlib.Core.Path.{refl, ◌∙◌}
+use Prim.Native.Nat.{◌*◌}
 use Rattle.effect_batches.proofs.Numbers.{numbered_none, numbered_more, numbered_then, below_asks}
 use Rattle.effect_batches.proofs.number.name_rows.Goals as goal
 

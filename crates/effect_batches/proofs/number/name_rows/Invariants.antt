@@ -1,10 +1,8 @@
 -- `name_rows` meets its contract: the rows that rows of the batch name get the next columns. Assumes nothing.
-use native.Mathlib.Omega.{arith}
-use mathlib.Core.Path.{◌≡◌, refl, ◌∙◌}
+use mathlib.Core.Path.{◌≡◌}
 use Prim.Native.Nat.{◌*◌, ◌-◌, ◌≤◌}
 use lib.ListN.{length}
 use Rattle.effect_batches.specs.Inner.Numbers.{Numbered}
-use Rattle.effect_batches.proofs.Numbers.{numbered_none, numbered_more, numbered_then, below_asks}
 use Rattle.effect_batches.proofs.number.name_rows.Given as goal
 
 abbrev pub invariant-loop-i : goal.invariant-loop-i

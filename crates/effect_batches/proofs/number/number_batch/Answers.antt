@@ -1,5 +1,4 @@
 -- `number_batch` meets its contract: the columns of a batch are apart, and all else stays. Assumes nothing.
-use borrow.Author.Rules.{rules}
 use native.Mathlib.Omega.{arith}
 use Rattle.effect_batches.proofs.Numbers.{roots_room, room_then, renumbered_then}
 use Rattle.effect_batches.proofs.number.number_batch.Goals as goal

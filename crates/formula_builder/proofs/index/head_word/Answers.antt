@@ -1,5 +1,4 @@
 -- `head_word` meets its contract: the word of a key's head, with room for so many rows. Assumes nothing.
-use borrow.Author.Rules.{rules}
 use native.Mathlib.Omega.{arith}
 use mathlib.Core.Path.{refl}
 use Rattle.formula_builder.specs.Inner.Index.{head_of}

@@ -1,5 +1,4 @@
 -- `key` meets its contract: the key of a row. Assumes nothing.
-use borrow.Author.Rules.{rules}
 use native.Mathlib.Omega.{arith}
 use mathlib.Core.Path.{refl}
 use Rattle.formula_builder.specs.Inner.Index.{key_of}

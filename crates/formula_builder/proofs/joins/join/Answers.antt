@@ -1,5 +1,4 @@
 -- `join` meets its contract: the join of rows a and b, "and" or "or": the number of its row; or 65535 if there was no room. Assumes nothing.
-use borrow.Author.Rules.{rules}
 use Rattle.formula_builder.proofs.Steps.{builds_as, builds_stands, falsity_small, join_left_false, join_right_false, join_left_true, join_right_true, join_fresh}
 use Rattle.formula_builder.specs.Inner.Held.{side}
 use Rattle.normal_form.specs.Builder.{row, image_of_false as false_row}

@@ -1,11 +1,7 @@
 -- `find_word` meets its contract: the word that names the row with these words; if no row has them, the word, now 0, that is to name it. Assumes
 -- nothing.
-use borrow.Author.Rules.{rules}
-use Prim.Native.Nat.{suc, ◌+◌, ◌-◌, ◌*◌}
-use mathlib.Core.Path.{◌≡◌, sym, ◌∙◌}
-use native.Mathlib.Omega.{arith}
 use Rattle.formula_builder.specs.Inner.Held.{row_of}
-use Rattle.formula_builder.proofs.Indexing.{Walks, remaining, walk_begins, walk-below, walk-less, walk-goes-on, walk-finds, walk_ends}
+use Rattle.formula_builder.proofs.Indexing.{Walks, remaining}
 use Rattle.formula_builder.proofs.rows.find_word.Given as goal
 
 abbrev pub invariant-loop-s : goal.invariant-loop-s

@@ -1,5 +1,4 @@
 -- `first_rows` meets its contract: false and true, the first two rows. Assumes nothing.
-use borrow.Author.Rules.{rules}
 use Rattle.formula_builder.proofs.Indexing.{first_searchable, second_searchable, first_two}
 use Rattle.formula_builder.proofs.rows.first_rows.Goals as goal
 

@@ -1,6 +1,5 @@
 -- `put` meets its contract: the row with these words among n rows, with room for so many: its number, which is n if it was appended; or 65535 if
 -- there was no room. Assumes nothing.
-use borrow.Author.Rules.{rules}
 use native.Mathlib.Omega.{arith}
 use mathlib.Core.Path.{refl}
 use Rattle.formula_builder.specs.Inner.Index.{stood, no_room, behind}

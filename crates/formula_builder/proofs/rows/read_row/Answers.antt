@@ -1,5 +1,4 @@
 -- `read_row` meets its contract: row i of a table. Assumes nothing.
-use borrow.Author.Rules.{rules}
 use mathlib.Core.Path.{refl}
 use Rattle.task.specs.Table.{row_at}
 use Rattle.formula_builder.proofs.rows.read_row.Goals as goal

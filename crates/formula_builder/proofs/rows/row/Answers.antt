@@ -1,5 +1,4 @@
 -- `row` meets its contract: the row with these words: its number, whether it stood or was appended; or 65535 if there was no room. Assumes nothing.
-use borrow.Author.Rules.{rules}
 use Rattle.formula_builder.proofs.Steps.{rows_searchable, row_put}
 use Rattle.formula_builder.proofs.rows.row.Goals as goal
 

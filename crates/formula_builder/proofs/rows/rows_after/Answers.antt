@@ -1,5 +1,4 @@
 -- `rows_after` meets its contract: how many rows stand after row k was put among n. Assumes nothing.
-use borrow.Author.Rules.{rules}
 use borrow.Author.Tests.{eq-eqb, ne_eqb}
 use Rattle.formula_builder.proofs.rows.rows_after.Goals as goal
 

@@ -1,5 +1,4 @@
 -- `same` meets its contract: whether row i has these three words. Assumes nothing.
-use borrow.Author.Rules.{rules}
 use mathlib.Core.Path.{ap, ◌∙◌}
 use Rattle.task.specs.Table.{Row}
 use Rattle.normal_form.specs.Builder.{same_row}

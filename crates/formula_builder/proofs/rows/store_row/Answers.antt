@@ -1,6 +1,5 @@
 -- `store_row` meets its contract: stores a row behind n rows. Assumes nothing.
-use borrow.Author.Rules.{rules}
-use lib.ListN.{length, get_or, length-set}
+use lib.ListN.{length-set}
 use native.Mathlib.Omega.{arith}
 use Rattle.formula_builder.proofs.rows.store_row.Goals as goal
 

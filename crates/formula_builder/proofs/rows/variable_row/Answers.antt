@@ -1,5 +1,4 @@
 -- `variable_row` meets its contract: the row of a variable. Assumes nothing.
-use borrow.Author.Rules.{rules}
 use Rattle.normal_form.specs.Builder.{variable_row}
 use Rattle.formula_builder.proofs.rows.variable_row.Goals as goal
 

@@ -1,6 +1,5 @@
 -- `twin_row` meets its contract: the row of v's twin, which gets the next variable number when first met; or 65535 if there was no room. Assumes
 -- nothing.
-use borrow.Author.Rules.{rules}
 use Rattle.formula_builder.proofs.Named.{twin_known, twin_full, twin-over, twin-put}
 use Rattle.formula_builder.specs.Inner.Held.{framed}
 use native.Mathlib.Omega.{arith}

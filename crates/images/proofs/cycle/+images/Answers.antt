@@ -1,9 +1,6 @@
 -- The two memoised functions and what they share meet their contracts: the row number falls from each row to its operands. Assumes nothing.
 -- In the answers `start` is the entry, `read` where the row was read, `left`, `right`, `made` and `end` where a row was built, `one` to `three` the tests.
-use Prim.Native.Nat.{ℕ, ◌<◌}
-use borrow.Author.Rules.{rules}
 use borrow.Author.Tests.{eq-eqb, ne_eqb}
-use Prim.Native.Nat.{◌+◌, ◌*◌}
 use native.Mathlib.Omega.{arith}
 use mathlib.Core.Path.{refl, ◌∙◌}
 use mathlib.Core.Bool.{true, false, not}
@@ -210,11 +207,10 @@ negated_image-returns-then-known-ne0 t c =
     images_known negated c.requires refl c.if-known-ne0.true
 
 pub pair-sided-l-requires : goal.pair-sided-l-requires
-pair-sided-l-requires t c =
-    (
-      omega (arith, left_lower c.requires c.read_row-w.result c.read_row-w.ensures),
-      asks_left c.requires c.read_row-w.result c.read_row-w.ensures,
-    )
+pair-sided-l-requires t c = (
+  omega (arith, left_lower c.requires c.read_row-w.result c.read_row-w.ensures),
+  asks_left c.requires c.read_row-w.result c.read_row-w.ensures,
+)
 
 pub pair-returns-then-l : goal.pair-returns-then-l
 pair-returns-then-l t c =
@@ -222,12 +218,11 @@ pair-returns-then-l t c =
     c.sided-l.ensures (eq-eqb _ 65535 c.if-l.true)
 
 pub pair-sided-r-requires : goal.pair-sided-r-requires
-pair-sided-r-requires t c =
-    (
-      omega (arith, right_lower c.requires c.read_row-w.result c.read_row-w.ensures),
-      asks_right c.requires c.read_row-w.result c.read_row-w.ensures c.sided-l.ensures (ne_eqb _ 65535 c.if-l.false)
-          c.sided-l.auto.scratch,
-    )
+pair-sided-r-requires t c = (
+  omega (arith, right_lower c.requires c.read_row-w.result c.read_row-w.ensures),
+  asks_right c.requires c.read_row-w.result c.read_row-w.ensures c.sided-l.ensures (ne_eqb _ 65535 c.if-l.false)
+      c.sided-l.auto.scratch,
+)
 
 pub pair-returns-then-r : goal.pair-returns-then-r
 pair-returns-then-r t c =
@@ -279,11 +274,10 @@ step-returns-then-w-lt-NOT t c =
     leaf_done c.requires c.read_row-w.result c.read_row-w.ensures c.args.not c.if-w-lt-NOT.true c.leaf.ensures
 
 pub step-sided-requires : goal.step-sided-requires
-step-sided-requires t c =
-    (
-      omega (arith, negated_operand c.requires c.read_row-w.result c.read_row-w.ensures c.if-w-eq-NOT.true),
-      asks_negated c.requires c.read_row-w.result c.read_row-w.ensures c.if-w-eq-NOT.true,
-    )
+step-sided-requires t c = (
+  omega (arith, negated_operand c.requires c.read_row-w.result c.read_row-w.ensures c.if-w-eq-NOT.true),
+  asks_negated c.requires c.read_row-w.result c.read_row-w.ensures c.if-w-eq-NOT.true,
+)
 
 pub step-returns-then-w-eq-NOT : goal.step-returns-then-w-eq-NOT
 step-returns-then-w-eq-NOT t c =

@@ -1,17 +1,6 @@
 -- The two memoised functions and what they share meet their contracts: the row number falls from each row to its operands. Assumes nothing.
 -- In the answers `start` is the entry, `read` where the row was read, `left`, `right`, `made` and `end` where a row was built, `one` to `three` the tests.
-use Prim.Native.Nat.{ℕ, ◌<◌}
-use borrow.Author.Rules.{rules}
-use borrow.Author.Tests.{eq-eqb, ne_eqb}
 use Prim.Native.Nat.{◌+◌, ◌*◌}
-use native.Mathlib.Omega.{arith}
-use mathlib.Core.Path.{refl, ◌∙◌}
-use mathlib.Core.Bool.{true, false, not}
-use Rattle.normal_form.specs.Builder.{plain, negated}
-use Rattle.formula_builder.specs.Inner.Held.{side, framed}
-use Rattle.images.proofs.Rows.{negated_operand, of_not, of_pair, of_equivalent}
-use Rattle.images.proofs.Memos.{place_within, images_as, left_full, right_full, joined, images_known, images_noted}
-use Rattle.images.proofs.Steps.{join_asks, equivalent_joins, asks_negated, asks_pair, leaf_ready, leaf_done, left_lower, right_lower, asks_left, asks_right, pair_joins, asks_second}
 use Rattle.images.proofs.cycle.+images.Given as goal
 
 abbrev pub decreases-build : goal.decreases-build

@@ -1,5 +1,4 @@
 -- `leaf` meets its contract: A variable's row is copied, or negated, its twin's row is built; false and true stand. Assumes nothing.
-use borrow.Author.Rules.{rules}
 use mathlib.Core.Path.{refl}
 use Rattle.normal_form.specs.Builder.{plain, negated}
 use Rattle.formula_builder.proofs.Steps.{builds_as}

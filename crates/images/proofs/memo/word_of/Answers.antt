@@ -1,5 +1,4 @@
 -- `word_of` meets its contract: where the memo has the image of formula i, or its negated image. Assumes nothing.
-use borrow.Author.Rules.{rules}
 use Rattle.images.proofs.memo.word_of.Goals as goal
 
 pub returns-then-not : goal.returns-then-not

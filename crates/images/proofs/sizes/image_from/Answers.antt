@@ -1,5 +1,4 @@
 -- `image_from` meets its contract: the image of formula i, from a size. Assumes nothing.
-use borrow.Author.Rules.{rules}
 use Rattle.normal_form.specs.Builder.{plain}
 use Rattle.images.proofs.Steps.{asks_framed, images_framed}
 use Rattle.images.proofs.sizes.image_from.Goals as goal

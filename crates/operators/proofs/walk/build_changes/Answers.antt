@@ -1,13 +1,8 @@
 -- `build_changes` meets its contract: the changes of all variables are built, and recorded behind those that are; variables that the effect does not
 -- touch are passed over. Assumes nothing.
-use borrow.Author.Rules.{rules}
-use Prim.Native.Nat.{◌-◌}
-use mathlib.Core.Path.{◌≡◌, refl, ◌∙◌}
+use mathlib.Core.Path.{refl, ◌∙◌}
 use native.Mathlib.Omega.{arith}
-use lib.ListN.{length}
-use Rattle.formula_builder.specs.Inner.Held.{store, held}
-use Rattle.operators.proofs.Walks.{change_asks, change_made, looks_on, Walking, walking_begins, walking_asks, walking_keeps, walking-stops, walking-more, walking_ends}
-use Rattle.conditions.specs.Inner.Conditions.{Noted}
+use Rattle.operators.proofs.Walks.{change_asks, change_made, looks_on, walking_begins, walking_asks, walking_keeps, walking-stops, walking-more, walking_ends}
 use Rattle.variable_changes.proofs.Standing.{leaves_same, leaves_full}
 use Rattle.operators.proofs.walk.build_changes.Goals as goal
 
@@ -49,12 +44,11 @@ shape_of-records-then-c c =
     c.loop-v.invariant.4
 
 pub returns-then-c : goal.returns-then-c
-returns-then-c c =
-    (
-      walking-stops c.requires.0 c.loop-v.invariant.5 c.change_of-c.result
-          (change_made c.words_of-words.ensures _ _ c.change_of-c.ensures).0 c.loop-v-test.true c.if-c.true refl,
-      leaves_full,
-    )
+returns-then-c c = (
+  walking-stops c.requires.0 c.loop-v.invariant.5 c.change_of-c.result
+      (change_made c.words_of-words.ensures _ _ c.change_of-c.ensures).0 c.loop-v-test.true c.if-c.true refl,
+  leaves_full,
+)
 
 pub keep_change-k-requires : goal.keep_change-k-requires
 keep_change-k-requires c =
@@ -74,18 +68,17 @@ loop-v-smaller c =
     omega (arith, c.loop-v-test.true, c.next_touched-v-in-loop-v.ensures.above)
 
 pub loop-v-preserved : goal.loop-v-preserved
-loop-v-preserved c =
-    (
-      c.change_of-c.auto.notes ∙ c.loop-v.invariant.0,
-      c.change_of-c.auto.table ∙ c.loop-v.invariant.1,
-      c.change_of-c.auto.originals ∙ c.loop-v.invariant.2,
-      c.change_of-c.auto.scratch ∙ c.loop-v.invariant.3,
-      c.keep_change-k.auto.records ∙ c.loop-v.invariant.4,
-      walking-more c.requires.0 c.loop-v.invariant.5 c.change_of-c.result
-          (change_made c.words_of-words.ensures _ _ c.change_of-c.ensures).0 c.if-c.false c.keep_change-k.ensures
-          ((change_made c.words_of-words.ensures _ _ c.change_of-c.ensures).1.noted c.if-c.false) c.next_touched-v-in-loop-v.ensures,
-      (change_made c.words_of-words.ensures _ _ c.change_of-c.ensures).1.noted c.if-c.false,
-    )
+loop-v-preserved c = (
+  c.change_of-c.auto.notes ∙ c.loop-v.invariant.0,
+  c.change_of-c.auto.table ∙ c.loop-v.invariant.1,
+  c.change_of-c.auto.originals ∙ c.loop-v.invariant.2,
+  c.change_of-c.auto.scratch ∙ c.loop-v.invariant.3,
+  c.keep_change-k.auto.records ∙ c.loop-v.invariant.4,
+  walking-more c.requires.0 c.loop-v.invariant.5 c.change_of-c.result
+      (change_made c.words_of-words.ensures _ _ c.change_of-c.ensures).0 c.if-c.false c.keep_change-k.ensures
+      ((change_made c.words_of-words.ensures _ _ c.change_of-c.ensures).1.noted c.if-c.false) c.next_touched-v-in-loop-v.ensures,
+  (change_made c.words_of-words.ensures _ _ c.change_of-c.ensures).1.noted c.if-c.false,
+)
 
 pub shape_of-notes : goal.shape_of-notes
 shape_of-notes c = c.loop-v.invariant.0

@@ -1,14 +1,11 @@
 -- `build_changes` meets its contract: the changes of all variables are built, and recorded behind those that are; variables that the effect does not
 -- touch are passed over. Assumes nothing.
-use borrow.Author.Rules.{rules}
 use Prim.Native.Nat.{◌-◌}
-use mathlib.Core.Path.{◌≡◌, refl, ◌∙◌}
-use native.Mathlib.Omega.{arith}
+use mathlib.Core.Path.{◌≡◌}
 use lib.ListN.{length}
 use Rattle.formula_builder.specs.Inner.Held.{store, held}
-use Rattle.operators.proofs.Walks.{change_asks, change_made, looks_on, Walking, walking_begins, walking_asks, walking_keeps, walking-stops, walking-more, walking_ends}
+use Rattle.operators.proofs.Walks.{Walking}
 use Rattle.conditions.specs.Inner.Conditions.{Noted}
-use Rattle.variable_changes.proofs.Standing.{leaves_same, leaves_full}
 use Rattle.operators.proofs.walk.build_changes.Given as goal
 
 abbrev pub invariant-loop-v : goal.invariant-loop-v

@@ -1,8 +1,6 @@
 -- `next_touched` meets its contract: the first variable from one on of which effect e names an atom. Assumes nothing.
 use Prim.Native.Nat.{◌-◌}
-use native.Mathlib.Omega.{arith}
-use Rattle.operators.proofs.Passing.{Searching, searching_none, searching_more, searched, searched_all}
-use Rattle.operators.proofs.Walks.{looks_at}
+use Rattle.operators.proofs.Passing.{Searching}
 use Rattle.operators.proofs.walk.next_touched.Given as goal
 
 abbrev pub invariant-loop-v : goal.invariant-loop-v

@@ -1,6 +1,5 @@
 -- `passed_at` meets its contract: how many variables from v on are passed over at once: none, if effect e names an atom of v; those left of v's word,
 -- if it names none of theirs either; else v alone. Assumes nothing.
-use borrow.Author.Rules.{rules}
 use Rattle.operators.proofs.Passing.{passes_rest, passes_one, passes_none}
 use Rattle.operators.proofs.walk.passed_at.Goals as goal
 

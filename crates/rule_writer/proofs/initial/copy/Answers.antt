@@ -1,7 +1,6 @@
 -- `copy` meets its contract: the source's values, v bytes. Assumes nothing.
-use Prim.Native.Nat.{◌-◌}
 use native.Mathlib.Omega.{arith}
-use Rattle.rule_writer.proofs.Values.{Copied, copied_none, copied_more, copied_all}
+use Rattle.rule_writer.proofs.Values.{copied_none, copied_more, copied_all}
 use Rattle.rule_writer.proofs.initial.copy.Goals as goal
 
 pub loop-i-init : goal.loop-i-init

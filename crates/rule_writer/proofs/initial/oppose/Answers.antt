@@ -1,8 +1,7 @@
 -- `oppose` meets its contract: behind v values, those of w twins, each opposite to its original's. Assumes nothing.
-use Prim.Native.Nat.{◌-◌}
 use native.Mathlib.Omega.{arith}
 use lib.ListN.{get_or}
-use Rattle.rule_writer.proofs.Values.{Opposed, opposed_none, opposed_more, opposed_all}
+use Rattle.rule_writer.proofs.Values.{opposed_none, opposed_more, opposed_all}
 use Rattle.rule_writer.proofs.initial.oppose.Goals as goal
 
 pub loop-k-init : goal.loop-k-init

@@ -1,8 +1,6 @@
 -- `oppose` meets its contract: behind v values, those of w twins, each opposite to its original's. Assumes nothing.
 use Prim.Native.Nat.{◌-◌}
-use native.Mathlib.Omega.{arith}
-use lib.ListN.{get_or}
-use Rattle.rule_writer.proofs.Values.{Opposed, opposed_none, opposed_more, opposed_all}
+use Rattle.rule_writer.proofs.Values.{Opposed}
 use Rattle.rule_writer.proofs.initial.oppose.Given as goal
 
 abbrev pub invariant-loop-k : goal.invariant-loop-k

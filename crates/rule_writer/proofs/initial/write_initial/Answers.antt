@@ -1,5 +1,4 @@
 -- `write_initial` meets its contract: the source's values, then those of the twins. Assumes nothing.
-use borrow.Author.Rules.{rules}
 use Rattle.rule_writer.proofs.Values.{values_written}
 use Rattle.rule_writer.proofs.initial.write_initial.Goals as goal
 

@@ -1,7 +1,6 @@
 -- `clear` meets its contract: no variable has a twin: each of v places is past them. Assumes nothing.
-use Prim.Native.Nat.{◌-◌}
 use native.Mathlib.Omega.{arith}
-use Rattle.rule_writer.proofs.Placing.{Cleared, cleared_none, cleared_more, cleared_all}
+use Rattle.rule_writer.proofs.Placing.{cleared_none, cleared_more, cleared_all}
 use Rattle.rule_writer.proofs.places.clear.Goals as goal
 
 pub loop-i-init : goal.loop-i-init
@@ -24,5 +23,5 @@ shape_of-places c = c.loop-i.invariant.same
 pub returns : goal.returns
 returns c =
     let done = cleared_all c.args.places.now c.args.v c.args.past c.requires
-        c.loop-i.places c.loop-i.i c.loop-i.invariant c.loop-i-test.false in
+    c.loop-i.places c.loop-i.i c.loop-i.invariant c.loop-i-test.false in
     record { all_past = done.0; places_unchanged = done.1 }

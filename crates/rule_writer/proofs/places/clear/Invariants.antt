@@ -1,7 +1,6 @@
 -- `clear` meets its contract: no variable has a twin: each of v places is past them. Assumes nothing.
 use Prim.Native.Nat.{◌-◌}
-use native.Mathlib.Omega.{arith}
-use Rattle.rule_writer.proofs.Placing.{Cleared, cleared_none, cleared_more, cleared_all}
+use Rattle.rule_writer.proofs.Placing.{Cleared}
 use Rattle.rule_writer.proofs.places.clear.Given as goal
 
 abbrev pub invariant-loop-i : goal.invariant-loop-i

@@ -1,5 +1,4 @@
 -- `find_places` meets its contract: for each of v variables the place of its twin among w twins; w if it has none. Assumes nothing.
-use borrow.Author.Rules.{rules}
 use mathlib.Core.Path.{◌∙◌}
 use Rattle.rule_writer.proofs.places.find_places.Goals as goal
 

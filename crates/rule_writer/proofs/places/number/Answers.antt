@@ -1,7 +1,7 @@
 -- `number` meets its contract: the places of w twins, the last one first: of equal originals the first stays. Assumes nothing.
 use Prim.Native.Nat.{◌-◌}
 use native.Mathlib.Omega.{arith}
-use Rattle.rule_writer.proofs.Placing.{Numbered, numbered_none, numbered_more, numbered_all}
+use Rattle.rule_writer.proofs.Placing.{numbered_none, numbered_more, numbered_all}
 use Rattle.rule_writer.proofs.places.number.Goals as goal
 
 pub loop-k-init : goal.loop-k-init
@@ -42,5 +42,5 @@ shape_of-places c = c.loop-k.invariant.same
 pub returns : goal.returns
 returns c =
     let done = numbered_all c.args.originals.now c.args.places.now c.args.v c.args.w
-        c.requires.0 c.loop-k.places c.loop-k.k c.loop-k.invariant c.loop-k-test.false in
+    c.requires.0 c.loop-k.places c.loop-k.k c.loop-k.invariant c.loop-k-test.false in
     record { placed = done.0; places_unchanged = done.1 }

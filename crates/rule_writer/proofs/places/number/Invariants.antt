@@ -1,7 +1,5 @@
 -- `number` meets its contract: the places of w twins, the last one first: of equal originals the first stays. Assumes nothing.
-use Prim.Native.Nat.{◌-◌}
-use native.Mathlib.Omega.{arith}
-use Rattle.rule_writer.proofs.Placing.{Numbered, numbered_none, numbered_more, numbered_all}
+use Rattle.rule_writer.proofs.Placing.{Numbered}
 use Rattle.rule_writer.proofs.places.number.Given as goal
 
 abbrev pub invariant-loop-k : goal.invariant-loop-k

@@ -1,5 +1,4 @@
 -- `store` meets its contract: stores three words as row n. Assumes nothing.
-use borrow.Author.Rules.{rules}
 use native.Mathlib.Omega.{arith}
 use lib.ListN.{length-set}
 use Rattle.rule_writer.proofs.rows.store.Goals as goal

@@ -1,5 +1,4 @@
 -- `conjunct` meets its contract: the two rows of a rule: its atom at row n, then the atom under its condition. Assumes nothing.
-use borrow.Author.Rules.{rules}
 use Rattle.rule_writer.proofs.rules.conjunct.Goals as goal
 
 pub returns : goal.returns

@@ -1,5 +1,4 @@
 -- `first` meets its contract: an operator's first rule. Assumes nothing.
-use borrow.Author.Rules.{rules}
 use Rattle.rule_writer.proofs.Writing.{first_full, first_done}
 use Rattle.rule_writer.proofs.rules.first.Goals as goal
 

@@ -1,5 +1,4 @@
 -- `next` meets its contract: A further rule: joined by "both" to what stands. Assumes nothing.
-use borrow.Author.Rules.{rules}
 use Rattle.rule_writer.proofs.Writing.{next_full, next_done}
 use Rattle.rule_writer.proofs.rules.next.Goals as goal
 

@@ -1,5 +1,4 @@
 -- `opposed` meets its contract: A rule, and the opposite one for the twin at place k. Assumes nothing.
-use borrow.Author.Rules.{rules}
 use Rattle.rule_writer.proofs.Writing.{writes_both}
 use Rattle.rule_writer.proofs.rules.opposed.Goals as goal
 

@@ -1,5 +1,4 @@
 -- `twin_rule` meets its contract: the opposite rule for the twin at place k; none if k is past the twins. Assumes nothing.
-use borrow.Author.Rules.{rules}
 use Rattle.rule_writer.proofs.Writing.{writes_none, writes_as, twin_there, twin_absent}
 use Rattle.rule_writer.proofs.rules.twin_rule.Goals as goal
 

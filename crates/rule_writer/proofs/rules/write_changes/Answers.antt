@@ -1,6 +1,5 @@
 -- `write_changes` meets its contract: all rules of one variable, the place of its twin being known: set v, clear its twin; clear v, set its twin.
 -- Assumes nothing.
-use borrow.Author.Rules.{rules}
 use native.Mathlib.Omega.{arith}
 use Rattle.rule_writer.proofs.Writing.{writes_both}
 use Rattle.rule_writer.proofs.rules.write_changes.Goals as goal

@@ -1,5 +1,4 @@
 -- `write_rule` meets its contract: one rule; none for a condition that is row 0. Assumes nothing.
-use borrow.Author.Rules.{rules}
 use Rattle.rule_writer.proofs.Writing.{writes_filled, writes_none, writes_as, rule_absent, rule_there}
 use Rattle.rule_writer.proofs.rules.write_rule.Goals as goal
 

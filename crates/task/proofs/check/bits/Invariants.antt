@@ -1,13 +1,10 @@
 -- `bits` meets its contract: whether every byte is 0 or 1. Assumes nothing.
 use Prim.Native.Nat.{◌≤◌, ◌-◌}
-use native.Mathlib.Omega.{arith}
 use mathlib.Core.Path.{◌≡◌}
 use mathlib.Core.Bool.{true}
 use lib.ListN.{length, get_or}
 use lib.Dec.{leb}
-use borrow.Author.Tests.{le-leb, lt-leb}
 use Rattle.task.specs.Bounded.{every}
-use Rattle.task.proofs.Bounded.{every_none, every_more, every_stops, every_ends}
 use Rattle.task.proofs.check.bits.Given as goal
 
 abbrev pub invariant-loop-v : goal.invariant-loop-v

@@ -1,5 +1,4 @@
 -- `bits_kept` tests the bytes in front. Assumes nothing.
-use borrow.Author.Rules.{rules}
 use Prim.Native.Nat.{ℕ}
 use mathlib.Core.Path.{◌∙◌}
 use lib.Dec.{leb}

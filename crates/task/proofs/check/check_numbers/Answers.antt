@@ -4,7 +4,6 @@ use mathlib.Core.Path.{◌∙◌}
 use Rattle.task.specs.Check.{initial_kept, twins_kept, formulas_kept, effects_kept, operators_number}
 use Rattle.task.proofs.Passed.{counts_tested, lengths_tested}
 use Rattle.task.proofs.Order.{refused_6, refused_7, refused_5, refused_8, refused_9, refused_10, refused-11, refused-12, rows_one, failed, tested}
-use borrow.Author.Rules.{rules}
 use Rattle.task.proofs.check.check_numbers.Goals as goal
 
 pub returns-then-not-counts_kept : goal.returns-then-not-counts_kept

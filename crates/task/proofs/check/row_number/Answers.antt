@@ -1,8 +1,7 @@
 -- `row_number` meets its contract: the number of the rule which a row breaks. Assumes nothing.
-use mathlib.Core.Path.{◌≡◌, ap, ◌∙◌}
+use mathlib.Core.Path.{ap, ◌∙◌}
 use mathlib.Core.Bool.{Bool}
 use Rattle.task.specs.Check.{unless, formula_kept, effect_kept}
-use borrow.Author.Rules.{rules}
 use Rattle.task.proofs.check.row_number.Goals as goal
 
 pub returns-in-Formulas : goal.returns-in-Formulas

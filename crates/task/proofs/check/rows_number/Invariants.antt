@@ -1,13 +1,8 @@
 -- `rows_number` meets its contract: the first number among the first `count` rows of a table. Assumes nothing.
 use Prim.Native.Nat.{◌≤◌, ◌-◌}
-use native.Mathlib.Omega.{arith}
-use mathlib.Core.Path.{◌≡◌, ◌∙◌}
+use mathlib.Core.Path.{◌≡◌}
 use Rattle.task.specs.Bounded.{first_number}
 use Rattle.task.specs.Inner.Tables.{row_number}
-use Rattle.task.proofs.Bounded.{first_none, first_more, first_stops, first_ends}
-use Rattle.task.proofs.Refusals.{row_tested}
-use Rattle.task.proofs.Stores.{row_there}
-use borrow.Author.Rules.{rules}
 use Rattle.task.proofs.check.rows_number.Given as goal
 
 abbrev pub invariant-loop-i : goal.invariant-loop-i

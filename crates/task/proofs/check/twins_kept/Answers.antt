@@ -1,13 +1,8 @@
 -- `twins_kept` meets its contract: whether each twin row names a variable below `bound` that no row before it names. Assumes nothing.
-use Prim.Native.Nat.{◌≤◌, ◌-◌}
 use native.Mathlib.Omega.{arith}
-use mathlib.Core.Path.{◌≡◌}
-use mathlib.Core.Bool.{true}
-use Rattle.task.specs.Bounded.{every}
-use Rattle.task.specs.Check.{twin_kept}
 use Rattle.task.proofs.Bounded.{every_none, every_more, every_stops, every_ends}
 use Rattle.task.proofs.Refusals.{twin_outside}
-use Rattle.task.proofs.Named.{NamedBy, named_none, named_more, named_before, named_now}
+use Rattle.task.proofs.Named.{named_none, named_more, named_before, named_now}
 use Rattle.task.proofs.check.twins_kept.Goals as goal
 
 pub loop-k-init : goal.loop-k-init

@@ -1,8 +1,7 @@
 -- `clear_bytes` meets its contract: all bytes 0. Assumes nothing.
 use Prim.Native.Nat.{◌-◌}
-use native.Mathlib.Omega.{arith}
 use lib.ListN.{length}
-use Rattle.task.proofs.Cleared.{Cleared, cleared_none, cleared_more, cleared_all}
+use Rattle.task.proofs.Cleared.{Cleared}
 use Rattle.task.proofs.clear.clear_bytes.Given as goal
 
 abbrev pub invariant-loop-i : goal.invariant-loop-i

@@ -1,8 +1,6 @@
 -- `clear_words` meets its contract: all words 0. Assumes nothing.
-use Prim.Native.Nat.{◌-◌}
 use native.Mathlib.Omega.{arith}
-use lib.ListN.{length}
-use Rattle.task.proofs.Cleared.{Cleared, cleared_none, cleared_more, cleared_all}
+use Rattle.task.proofs.Cleared.{cleared_none, cleared_more, cleared_all}
 use Rattle.task.proofs.clear.clear_words.Goals as goal
 
 pub loop-i-init : goal.loop-i-init

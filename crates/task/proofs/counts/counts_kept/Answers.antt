@@ -1,10 +1,8 @@
 -- `counts_kept` meets its contract: whether every count is within its limits. Assumes nothing.
 use Rattle.task.proofs.Refusals.{counts_last}
-use mathlib.Core.Path.{refl}
 use mathlib.Core.Bool.{and-false}
-use borrow.Author.Tests.{lt-leb, le-leb}
+use borrow.Author.Tests.{lt-leb}
 use Rattle.task.specs.Check.{counts_kept}
-use borrow.Author.Rules.{rules}
 use Rattle.task.proofs.counts.counts_kept.Goals as goal
 
 pub returns-then-head-gt-MOST_VARIABLES : goal.returns-then-head-gt-MOST_VARIABLES

@@ -1,10 +1,8 @@
 -- `long_enough` meets its contract: constant time: only the lengths are looked at. Assumes nothing.
 use Rattle.task.proofs.Refusals.{lengths_last}
-use mathlib.Core.Path.{refl}
 use mathlib.Core.Bool.{and-false}
-use borrow.Author.Tests.{lt-leb, le-leb}
+use borrow.Author.Tests.{lt-leb}
 use Rattle.task.specs.Check.{long_enough, room}
-use borrow.Author.Rules.{rules}
 use Rattle.task.proofs.lengths.long_enough.Goals as goal
 
 pub returns-then-initial-head : goal.returns-then-initial-head

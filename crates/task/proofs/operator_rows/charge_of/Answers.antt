@@ -4,7 +4,6 @@ use native.Mathlib.Nat.{mul-le-mul}
 use native.Mathlib.Omega.{arith}
 use mathlib.Core.Path.{refl}
 use Rattle.task.specs.Run.{charge_of}
-use borrow.Author.Rules.{rules}
 use Rattle.task.proofs.operator_rows.charge_of.Goals as goal
 
 pub overflow_mul-result : goal.overflow_mul-result

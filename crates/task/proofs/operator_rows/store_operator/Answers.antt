@@ -1,7 +1,6 @@
 -- `store_operator` meets its contract: stores operator o. Assumes nothing.
 use native.Mathlib.Omega.{arith}
 use lib.ListN.{length-set}
-use borrow.Author.Rules.{rules}
 use Rattle.task.proofs.operator_rows.store_operator.Goals as goal
 
 pub bounds-operators-at-2 : goal.bounds-operators-at-2

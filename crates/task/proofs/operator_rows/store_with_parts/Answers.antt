@@ -2,7 +2,6 @@
 use mathlib.Core.Path.{◌∙◌}
 use Rattle.task.specs.Table.{operator}
 use Rattle.task.specs.Inner.Stored.{operator_stored}
-use borrow.Author.Rules.{rules}
 use Rattle.task.proofs.operator_rows.store_with_parts.Goals as goal
 
 pub returns : goal.returns

@@ -2,7 +2,6 @@
 use native.Mathlib.Omega.{arith}
 use mathlib.Core.Path.{◌∙◌}
 use Rattle.task.proofs.Refusals.{effect_empty, effect_atom, effect_both, effect_under, effect_unknown}
-use borrow.Author.Rules.{rules}
 use Rattle.task.proofs.rows.effect_kept.Goals as goal
 
 pub returns-in-0 : goal.returns-in-0

@@ -2,7 +2,6 @@
 use native.Mathlib.Omega.{arith}
 use mathlib.Core.Path.{◌∙◌}
 use Rattle.task.proofs.Refusals.{formula_constant, formula_variable, formula_not, formula_pair, formula_unknown}
-use borrow.Author.Rules.{rules}
 use Rattle.task.proofs.rows.formula_kept.Goals as goal
 
 pub returns-in-2 : goal.returns-in-2

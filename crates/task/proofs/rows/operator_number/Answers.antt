@@ -1,8 +1,6 @@
 -- `operator_number` meets its contract: 12, then 24. Assumes nothing.
-use Rattle.task.specs.Check.{percent_kept, operator_number}
 use Rattle.task.proofs.Order.{failed, tested}
 use Rattle.task.proofs.RowRules.{number_12, number_24, number_none}
-use borrow.Author.Rules.{rules}
 use Rattle.task.proofs.rows.operator_number.Goals as goal
 
 pub returns-then-not-operator_kept : goal.returns-then-not-operator_kept

@@ -1,7 +1,6 @@
 -- `part` meets its contract: a row, or the empty part where the table does not hold all of it. Assumes nothing.
 use native.Mathlib.Omega.{arith}
 use Rattle.task.proofs.Refusals.{row_fits, row_past, row_inside, row_outside}
-use borrow.Author.Rules.{rules}
 use Rattle.task.proofs.rows.part.Goals as goal
 
 pub overflow_mul-start : goal.overflow_mul-start

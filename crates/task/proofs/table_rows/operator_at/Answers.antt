@@ -1,5 +1,4 @@
 -- `operator_at` meets its contract: the words of an operator's row. Assumes nothing.
-use borrow.Author.Rules.{rules}
 use Rattle.task.proofs.table_rows.operator_at.Goals as goal
 
 pub returns : goal.returns

@@ -1,5 +1,4 @@
 -- `row_at` meets its contract: row i of a table. Assumes nothing.
-use borrow.Author.Rules.{rules}
 use Rattle.task.proofs.table_rows.row_at.Goals as goal
 
 pub three_at-requires : goal.three_at-requires

@@ -1,5 +1,4 @@
 -- `store_row` meets its contract: stores row i of a table. Assumes nothing.
-use borrow.Author.Rules.{rules}
 use Rattle.task.proofs.table_rows.store_row.Goals as goal
 
 pub store_three-requires : goal.store_three-requires

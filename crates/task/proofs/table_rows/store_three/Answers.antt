@@ -1,7 +1,6 @@
 -- `store_three` meets its contract: stores a row of three words. Assumes nothing.
 use native.Mathlib.Omega.{arith}
 use lib.ListN.{length-set}
-use borrow.Author.Rules.{rules}
 use Rattle.task.proofs.table_rows.store_three.Goals as goal
 
 pub bounds-words-k-2 : goal.bounds-words-k-2

@@ -3,7 +3,6 @@ use Rattle.test_calls.specs.Buffers.{head_words}
 use native.Mathlib.Omega.{arith}
 use lib.ListN.{length-set}
 use Rattle.test_calls.proofs.Told.{told_left, told_stored}
-use borrow.Author.Rules.{rules}
 use Rattle.test_calls.proofs.buffers.tell_head.Goals as goal
 
 pub returns-then-buffer-ne6 : goal.returns-then-buffer-ne6

@@ -2,7 +2,6 @@
 use native.Mathlib.Omega.{arith}
 use lib.ListN.{length-set}
 use Rattle.test_calls.proofs.Told.{told_left, told_stored}
-use borrow.Author.Rules.{rules}
 use Rattle.test_calls.proofs.buffers.tell_two.Goals as goal
 
 pub returns-then-buffer-ne2 : goal.returns-then-buffer-ne2

@@ -3,7 +3,6 @@ use mathlib.Core.Path.{sym, ap}
 use Rattle.compiler.specs.declared.CompileAnswer.{CompileAnswer}
 use Rattle.compiler.specs.Left.{answer_of}
 use Rattle.test_calls.specs.Compiling.{compile_head}
-use borrow.Author.Rules.{rules}
 use Rattle.test_calls.proofs.compiling.compile_head.Goals as goal
 
 pub returns-in-Refused : goal.returns-in-Refused

@@ -1,7 +1,6 @@
 -- `test_compile` meets its contract: `compiler::compile`, with the head as six numbers; the compiled task's head goes to a buffer of six words, all 0
 -- after a refusal. Assumes nothing.
 use Rattle.test_calls.proofs.TaskLeaves.{compile_leaves}
-use borrow.Author.Rules.{rules}
 use Rattle.test_calls.proofs.compiling.test_compile.Goals as goal
 
 pub returns : goal.returns

@@ -1,6 +1,5 @@
 -- `test_read` meets its contract: `task_file::read`; the head goes to a buffer of six words, all 0 after a refusal. Assumes nothing.
 use Rattle.test_calls.proofs.FilesLeave.{read_leaves}
-use borrow.Author.Rules.{rules}
 use Rattle.test_calls.proofs.reading.test_read.Goals as goal
 
 pub returns : goal.returns

@@ -1,7 +1,6 @@
 -- `write_number` meets its contract. Assumes nothing.
 use mathlib.Core.Path.{sym, ap}
 use Rattle.test_calls.specs.Reading.{write_told}
-use borrow.Author.Rules.{rules}
 use Rattle.test_calls.proofs.reading.write_number.Goals as goal
 
 pub returns-in-NotWritten : goal.returns-in-NotWritten

@@ -1,6 +1,5 @@
 -- `test_run` meets its contract: `plan::run`, likewise; the result has six words. Assumes nothing.
 use Rattle.test_calls.proofs.RunsLeave.{run_leaves}
-use borrow.Author.Rules.{rules}
 use Rattle.test_calls.proofs.running.test_run.Goals as goal
 
 pub returns : goal.returns

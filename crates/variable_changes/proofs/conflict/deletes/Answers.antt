@@ -1,5 +1,4 @@
 -- `deletes` meets its contract: D, freed of conflict with A: if neither is row 0, D and N, with N the negated condition of set v. Assumes nothing.
-use borrow.Author.Rules.{rules}
 use Rattle.formula_builder.specs.Inner.Held.{store, framed}
 use Rattle.conditions.specs.Inner.Conditions.{condition_at}
 use Rattle.variable_changes.proofs.Standing.{asks_condition, never_set, never_cleared, negated-full, negated-join-asks, negated-joined}

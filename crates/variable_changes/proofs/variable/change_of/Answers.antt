@@ -1,5 +1,4 @@
 -- `change_of` meets its contract: what effect e does to variable v: all of A, then all of D, then N. Assumes nothing.
-use borrow.Author.Rules.{rules}
 use mathlib.Core.Path.{◌∙◌}
 use Rattle.conditions.specs.Inner.Conditions.{effect_tree, condition_at}
 use Rattle.variable_changes.proofs.Standing.{asks_condition, leaves_full, set_full, clear-full, change_made, stands_at_next}
@@ -72,11 +71,10 @@ shape_of-scratch c =
 
 pub returns : goal.returns
 unfolding condition_at
-returns c =
-    (
-      change_made (framed c.args.frame.now).variables c.args.v
-          (effect_tree (framed c.args.frame.now) c.args.formulas.now c.args.effects.now c.args.e)
-          c.condition_if-a.ensures (ne_eqb _ 65535 c.if-a.false) c.condition_if-d.ensures
-          (ne_eqb _ 65535 c.if-d.false) c.deletes-k.ensures,
-      record { noted = c.deletes-k.ensures.noted },
-    )
+returns c = (
+  change_made (framed c.args.frame.now).variables c.args.v
+      (effect_tree (framed c.args.frame.now) c.args.formulas.now c.args.effects.now c.args.e)
+      c.condition_if-a.ensures (ne_eqb _ 65535 c.if-a.false) c.condition_if-d.ensures
+      (ne_eqb _ 65535 c.if-d.false) c.deletes-k.ensures,
+  record { noted = c.deletes-k.ensures.noted },
+)
