@@ -21,7 +21,7 @@ test:
 	@bash scripts/test
 
 lib:
-	rt staticlib entries
+	bash scripts/built library entries
 	install -D -m 644 target/staticlib/libentries.a build/lib/libpnf.a
 
 build/lib/libpnf.a:
@@ -44,4 +44,4 @@ bench:
 	@bash scripts/bench
 
 clean:
-	rm -rf target build
+	rm -rf target build crates/*/out
