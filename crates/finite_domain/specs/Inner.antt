@@ -1,0 +1,2 @@
+-- What only private functions ask and leave; no promise to a caller rests on it.
+pub mod Tables

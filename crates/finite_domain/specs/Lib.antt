@@ -1,0 +1,7 @@
+pub mod Table
+pub mod Check
+pub mod Rules
+pub mod Meaning
+pub mod Tree
+pub mod Run
+pub mod Inner
