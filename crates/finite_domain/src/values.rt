@@ -7,6 +7,7 @@ ghost use Rattle.finite_domain.specs.Check.{count_kept, value_kept};
 use crate::MOST_VALUES;
 
 // Whether a value count is 1 to 16. Constant time.
+#[tactic(auto, using(crate::proofs::Ways::no_value, crate::proofs::Ways::some_value))]
 fn count_kept(count: u16) -> bool
     ensures { result ≡ count_kept count }
 {
