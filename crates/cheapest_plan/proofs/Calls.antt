@@ -15,7 +15,7 @@ use Rattle.task.specs.Table.{Lent, Task, task_of}
 use Rattle.task.specs.Run.{goal_holds}
 use Rattle.task.specs.Words.{padded}
 use Rattle.stepper.specs.Stepped.{cleared}
-use Rattle.state_queue.specs.Inner.Queue.{winner, Roomy, queued as Waits-there}
+use Rattle.state_queue.specs.Inner.Queue.{winner, Roomy, queued as waits_there}
 use Rattle.cheapest_plan.specs.declared.CheapestOutcome.{CheapestOutcome}
 use Rattle.cheapest_plan.specs.Cheapest.{Pick, no_plan, plan_of, cheapest}
 use Rattle.cheapest_plan.specs.Planned.{search_refusal, plan_refused, plan_written, plan_told, planned_by, planned, PlanGives}
@@ -92,7 +92,7 @@ pub record FirstEnd (t : Task) (n : ℕ) (words : List ℕ) (r : ℕ) : Type 0 w
   pub below : r < n
   pub known : Known t n words
   pub first : r ≡ winner words n 1
-  pub waiting : Waits-there (get_or words r 0) ≡ true
+  pub waiting : waits_there (get_or words r 0) ≡ true
   pub goal : goal_holds t (state_of (length t.initial) r) ≡ true
 
 some_end : {t : Task} {n : ℕ} {words : List ℕ} {r : ℕ} → SearchEnd t n words r → (r ≡ n → ⊥) → FirstEnd t n words r

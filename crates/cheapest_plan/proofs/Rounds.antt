@@ -10,7 +10,7 @@ use lib.ListN.{length, get_or}
 use borrow.Author.Tests.{eq-eqb, ne_eqb}
 use Rattle.task.specs.declared.Head.{Head}
 use Rattle.task.specs.Table.{Task}
-use Rattle.state_queue.specs.Inner.Queue.{winner, Roomy, queued as Waits-there}
+use Rattle.state_queue.specs.Inner.Queue.{winner, Roomy, queued as waits_there}
 use Rattle.state_queue.proofs.Changes.{root_state}
 use Rattle.cheapest_plan.specs.Inner.States.{state_of}
 use Rattle.cheapest_plan.specs.Inner.Search.{unreached, queued, Changed}
@@ -94,7 +94,7 @@ pub round_less :
     → Visits h f e o n s before after r
     → r ≡ false
     → s < n
-    → Waits-there (get_or before s 0) ≡ true
+    → waits_there (get_or before s 0) ≡ true
     → untaken after n < untaken before n
 round_less {n = n} {s = s} {before = before} {after = after} v no_goal l w =
     untaken_falls before after n v.zeros.stay s l (queued_word (get_or before s 0) w).0 (v.gone no_goal)
@@ -138,10 +138,10 @@ module _ {h : Head} {f e o : List ℕ} {n start : ℕ} (v : Searchable h f e o n
 
   module _ {words : List ℕ} (known : Known v.t n words) {s : ℕ} (first : s ≡ winner words n 1) where
     -- a round
-    unfoldable pub visitable : Waits-there (get_or words s 0) ≡ true → Visitable h f e o n s words
+    unfoldable pub visitable : waits_there (get_or words s 0) ≡ true → Visitable h f e o n s words
     visitable w = record { t = v.t; tables = v.tables; ground = v.ground; known = known; first = first; waiting = w }
 
-    module _ (w : Waits-there (get_or words s 0) ≡ true) {after : List ℕ} where
+    module _ (w : waits_there (get_or words s 0) ≡ true) {after : List ℕ} where
       pub round-known : {r : Bool} → r ≡ false → Visited (visitable w) after r → Known v.t n after
       unfolding visitable
       round-known e (at_goal g q) = let z : ◌≡◌ {A = Bool} true false = e in absurd (let x : ◌≡◌ {A = ℕ} 0 1 = cc in omega arith)
@@ -153,8 +153,8 @@ module _ {h : Head} {f e o : List ℕ} {n start : ℕ} (v : Searchable h f e o n
       round-goal e l (passed k) = absurd (let x : ◌≡◌ {A = ℕ} 0 1 = cc in omega arith)
 
     -- the end
-    pub search_none : Roomy n words → Waits-there (get_or words s 0) ≡ false → SearchEnd v.t n words n
+    pub search_none : Roomy n words → waits_there (get_or words s 0) ≡ false → SearchEnd v.t n words n
     search_none roomy e =
         no_end refl
         (empty_queue v.t v.ground.passes known.searching
-        (none-queued known.holds v.ground.states known.queue roomy.some (ap (λ (x : ℕ). Waits-there (get_or words x 0)) (sym first) ∙ e)))
+        (none-queued known.holds v.ground.states known.queue roomy.some (ap (λ (x : ℕ). waits_there (get_or words x 0)) (sym first) ∙ e)))

@@ -23,7 +23,7 @@ use Rattle.task.proofs.Bounded.{length_upto, getD_upto}
 use Rattle.evaluating.specs.Inner.Values.{Valuable, Valued, rows_of}
 use Rattle.state_codes.specs.Inner.Masks.{Masked, next_code, RowMasks, Maskable}
 use Rattle.state_codes.proofs.Meaning.{row_masked, next_below, next_state}
-use Rattle.state_queue.specs.Inner.Queue.{key, queue_cost, winner, Roomy, Queue, Waits, Played, queued as Waits-there}
+use Rattle.state_queue.specs.Inner.Queue.{key, queue_cost, winner, Roomy, Queue, Waits, Played, queued as waits_there}
 use Rattle.state_queue.proofs.Changes.{root_state, root_least, changed_waits}
 use Rattle.state_queue.proofs.Keys.{cost_taken, cost_else}
 use Rattle.cheapest_plan.specs.Inner.Leads.{next}
@@ -102,15 +102,15 @@ take_zeros {n} {s} {before} {after} w = record { stay = λ x l z. go x l z (ℕ_
     go x l z (no q) = w.costs x l q ∙ z
 
 -- whether a word is that of a state in the queue
-pub queued_word : (w : ℕ) → Waits-there w ≡ true → (w ≡ 0 → ⊥) × (w < 4294967295)
-unfolding Waits-there
+pub queued_word : (w : ℕ) → waits_there w ≡ true → (w ≡ 0 → ⊥) × (w < 4294967295)
+unfolding waits_there
 queued_word w e =
     let low : queue_cost w < 4294967294 = ltb-true (queue_cost w) 4294967294 e in
     let some : w ≡ 0 → ⊥ = λ z. omega (arith, cost_taken w z) in
     (some, omega (arith, cost_else w some))
 
-pub unqueued_cost : (w : ℕ) → Waits-there w ≡ false → 4294967294 ≤ queue_cost w
-unfolding Waits-there
+pub unqueued_cost : (w : ℕ) → waits_there w ≡ false → 4294967294 ≤ queue_cost w
+unfolding waits_there
 unqueued_cost w e = ltb-false (queue_cost w) 4294967294 e
 
 -- the words of a state that is queued
@@ -145,7 +145,7 @@ module _ {v n : ℕ} {status : List ℕ → Status} {words : List ℕ} (h : Hold
     pub is : status (state_of v s) ≡ queued p c
     pub at : QueuedAt v n status words s p c
 
-  pub waiting_at : (s : ℕ) → s < n → Waits-there (get_or words s 0) ≡ true → IsQueued s
+  pub waiting_at : (s : ℕ) → s < n → waits_there (get_or words s 0) ≡ true → IsQueued s
   waiting_at s l e = go (stands_at (status (state_of v s)) (h.at s l))
     where
       go : Stands v n status words s (status (state_of v s)) → IsQueued s
@@ -180,7 +180,7 @@ module _ {v n : ℕ} {status : List ℕ → Status} {words : List ℕ} (h : Hold
 
       -- where the root is not queued, nothing is
       pub none-queued :
-          Waits-there (get_or words (winner words n 1) 0) ≡ false
+          waits_there (get_or words (winner words n 1) 0) ≡ false
           → (y : List ℕ)
           → Bits v y
           → (r : List ℕ) (e : ℕ)

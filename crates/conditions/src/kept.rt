@@ -22,6 +22,7 @@ pub fn width_of(variables: usize) -> usize
 }
 
 // The word of the notes that keeps the condition of target t and effect e; 0, if none does. They keep as far as they reach.
+#[tactic(auto, using(crate::proofs::Notes::place_none))]
 fn place(notes: &[u16], frame: &[usize; 5], t: Target, e: usize) -> usize
     requires { Looks (framed frame.now) notes.now e × (t.variable < (framed frame.now).variables) }
     ensures { 0 < result → KeptAt (framed frame.now) notes.now t e result }

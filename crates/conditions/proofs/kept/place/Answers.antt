@@ -10,14 +10,6 @@ pub bounds-notes-e : goal.bounds-notes-e
 bounds-notes-e c =
     omega (arith, c.requires.0.words, c.requires.0.effect, sets_behind (framed c.args.frame.now))
 
-pub returns-then-c-eq0 : goal.returns-then-c-eq0
-returns-then-c-eq0 c =
-    place_none (framed c.args.frame.now) c.args.notes.now c.args.t c.args.e
-
-pub returns-then-n-part : goal.returns-then-n-part
-returns-then-n-part c =
-    place_none (framed c.args.frame.now) c.args.notes.now c.args.t c.args.e
-
 pub overflow_mul-a : goal.overflow_mul-a
 overflow_mul-a c =
     omega (
@@ -82,13 +74,9 @@ overflow_add-k-2 c =
       c.sets_end.ensures.1,
     )
 
-pub returns-then-notes-k : goal.returns-then-notes-k
-returns-then-notes-k c =
-    place_none (framed c.args.frame.now) c.args.notes.now c.args.t c.args.e
-
 pub returns : goal.returns
 returns c =
-    λ h. place_found (framed c.args.frame.now) c.args.notes.now c.args.t c.args.e _ c.if-c-eq0.false (omega (
+    λ h. place_found (framed c.args.frame.now) c.args.notes.now c.args.t c.args.e _ (omega arith) (omega (
       arith,
       c.part_of-part.ensures.0,
       c.width_of-n.ensures.0,
