@@ -133,6 +133,7 @@ fn compile_full(
 }
 
 // Compiles a source in small tables: through small room, and only if the compiled task has no room there, 15, through the full room.
+#[tactic(auto, using(crate::proofs::CompileWays::small_settled))]
 fn compile_short(
     head: Head,
     initial: &[u8],

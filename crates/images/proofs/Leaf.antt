@@ -2,14 +2,16 @@
 use Prim.Native.Nat.{ℕ, ◌<◌}
 use native.Mathlib.Omega.{arith}
 use mathlib.Core.Path.{◌≡◌, sym, ap₂, ◌∙◌}
+use mathlib.Core.Bool.{Bool, true}
 use borrow.Author.Tests.{eq-eqb, ne_eqb}
 use Rattle.normal_form.specs.Builder.{row, variable_row, twin_row, Polarity, plain, negated}
 use Rattle.normal_form.specs.Image.{literal}
 use Rattle.formula_builder.specs.declared.Words.{Words}
 use Rattle.formula_builder.specs.declared.Frame.{Frame}
 use Rattle.formula_builder.specs.declared.Size.{Size}
-use Rattle.formula_builder.specs.Inner.Held.{Store, row_of, stepped, Builds}
-use Rattle.formula_builder.proofs.Steps.{builds_stands}
+use Rattle.formula_builder.specs.declared.Step.{Step}
+use Rattle.formula_builder.specs.Inner.Held.{Store, side, row_of, stepped, Builds}
+use Rattle.formula_builder.proofs.Steps.{builds_stands, builds_as}
 use Rattle.images.specs.Inner.Images.{constant_by, leaf_built, LeafReady}
 
 constant_small : (p : Polarity) (k : ℕ) → k < 2 → constant_by p k < 2
@@ -41,3 +43,12 @@ leaf_constant {frame} {at} {before} p w r k =
     let l : w.kind < 2 = omega (arith, r.kind) in
     rw (ne_eqb w.kind 2 k)
     (builds_stands (constant_by p w.kind) r.ready (omega (arith, constant_small p w.kind l, r.ready.two)))
+
+-- a variable's leaf by its flag: its twin's row is built, or its row copied
+pub leaf_negated :
+    {frame : Frame} {at : Size} {before after : Store} {r : Step} (n : ℕ) (not : Bool) (w : Words)
+    → not ≡ true
+    → w.kind ≡ 2
+    → Builds (twin_row n w.a) frame at before after r
+    → Builds (leaf_built n (side not) (row_of w)) frame at before after r
+leaf_negated n not w e k b = rw e (builds_as (leaf_twin n w k) b)

@@ -8,6 +8,7 @@ use formula_builder::{ROWS, Words, row, twin_row};
 const VARIABLE: u16 = 2;
 
 // A variable's row is copied, or negated, its twin's row is built; false and true stand.
+#[tactic(auto, using(crate::proofs::Leaf::leaf_negated))]
 pub fn leaf(
     w: Words,
     not: bool,

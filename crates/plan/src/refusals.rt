@@ -7,6 +7,7 @@ use stepper::refused_early;
 use task::Head;
 
 // 0, or the first in order: what refuses a step, then 19.
+#[tactic(auto, using(crate::proofs::Refusing::run_refused_long))]
 pub fn refused_run(
     head: Head,
     initial: &[u8],

@@ -58,6 +58,7 @@ fn run_ready(
 
 // The numbers are carried out from the front until one is refused. Scratch of F + E bytes, of any content, ends as 0.
 // Cost: the check of the tables once, then F + E + V a step.
+#[tactic(auto, using(crate::proofs::Calls::run_refuses))]
 pub fn run(
     head: Head,
     initial: &[u8],

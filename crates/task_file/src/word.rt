@@ -25,6 +25,7 @@ pub fn read_word(file: &[u8], at: usize) -> Field
 }
 
 // A field by its bit: absent it is its default. Constant time.
+#[tactic(auto, using(crate::proofs::Places::field_needless))]
 pub fn read_field(file: &[u8], at: usize, bit: u8, default: u16) -> Field
     ensures { field_told file.now result ≡ field_read default bit (drop at file.now) }
 {

