@@ -1,9 +1,9 @@
 -- Laws of handing on a mark: what a store of 1 among the marks adds, and the ways out of handing on, by the kind of the row.
 -- Assumes nothing.
-use Prim.Native.Nat.{ℕ, ◌+◌, ◌≤◌, ◌<◌}
+use Prim.Native.Nat.{ℕ, suc, ◌+◌, ◌-◌, ◌≤◌, ◌<◌}
 use native.Mathlib.Decide.{ℕ_discrete}
 use native.Mathlib.Omega.{arith}
-use mathlib.Core.Path.{◌≡◌, refl, sym, subst, ◌∙◌}
+use mathlib.Core.Path.{◌≡◌, refl, sym, ap, subst, ◌∙◌}
 use mathlib.Core.Bool.{true, false, not, false≢true}
 use mathlib.Core.List.{List}
 use mathlib.Core.Logic.{◌⊎◌, inl, inr, ⊎_elim}
@@ -11,8 +11,19 @@ use lib.ListN.{length, get_or, set, length-set}
 use lib.Seq.{get_or-set_same, get_or-set_other}
 use lib.Dec.{eqb}
 use borrow.Author.Tests.{eq-eqb, ne_eqb}
+use Rattle.std.specs.Prelude.{Result, Ok, Err}
+use Rattle.std.specs.Result.{IsOk}
+use Rattle.task.specs.declared.Table.TheVariants.{Effects}
+use Rattle.task.specs.declared.TableRow.{TableRow}
+use Rattle.task.specs.declared.kinds.EffectKind.{EffectKind as Kind}
+use Rattle.task.specs.declared.kinds.EffectKind.TheVariants as kinds
+use Rattle.task.specs.declared.kinds.UnknownKind.{UnknownKind}
+use Rattle.task.specs.Kinds.{effect_number, EffectKindOf}
+use Rattle.task.specs.Inner.Tables.{words_at}
+use Rattle.task.specs.Rules.{EffectRule}
 use Rattle.task.specs.Table.{row_at, both_kind, under_kind, effect_kind}
-use Rattle.task.proofs.KindNumbers.{HasEffectNumber, effect_number}
+use Rattle.task.proofs.KindNumbers as KindNumbers
+use Rattle.task.proofs.KindNumbers.{HasEffectNumber}
 use Rattle.applying.specs.Inner.Marks.{on, marked, HandsTo, to_left, to_right, to_inner, Markable, HandedOn}
 
 pub on_same : (s t : List ℕ) (i : ℕ) → get_or t i 0 ≡ get_or s i 0 → on t i ≡ on s i
@@ -65,10 +76,10 @@ zero_off s i z = rw (eq-eqb (get_or s i 0) 0 z)
 
 -- the numbers of the two kinds that hand on
 both_number : (n : ℕ) → effect_kind n ≡ both_kind → n ≡ 3
-both_number n e = subst (HasEffectNumber n) e (effect_number n)
+both_number n e = subst (HasEffectNumber n) e (KindNumbers.effect_number n)
 
 under_number : (n : ℕ) → effect_kind n ≡ under_kind → n ≡ 4
-under_number n e = subst (HasEffectNumber n) e (effect_number n)
+under_number n e = subst (HasEffectNumber n) e (KindNumbers.effect_number n)
 
 both_kind_of : {n : ℕ} → n ≡ 3 → effect_kind n ≡ both_kind
 unfolding effect_kind
@@ -80,18 +91,18 @@ under_kind_of e = rw e
 
 -- by the number of row k's kind: what is asked of it, and what handing on leaves
 module _ {words : List ℕ} {v at k : ℕ} {s : List ℕ} (m : Markable words v at k s) where
-  pub both_refs : (row_at words k).kind ≡ 3 → ((row_at words k).a < k) × ((row_at words k).b < k)
+  both_refs : (row_at words k).kind ≡ 3 → ((row_at words k).a < k) × ((row_at words k).b < k)
   unfolding effect_kind
   both_refs e = rw e at (m.rule k (omega arith))
 
-  pub under_refs : (row_at words k).kind ≡ 4 → ((row_at words k).a < at) × ((row_at words k).b < k)
+  under_refs : (row_at words k).kind ≡ 4 → ((row_at words k).a < at) × ((row_at words k).b < k)
   unfolding effect_kind
   under_refs e = rw e at (m.rule k (omega arith))
 
-  pub handed_both :
+  both_handed :
       (row_at words k).kind ≡ 3
       → HandedOn words at k s (set (set s (at + (row_at words k).a) 1) (at + (row_at words k).b) 1)
-  handed_both e =
+  both_handed e =
       record {
         same = second.same ∙ first.same;
         values = λ i l. second.values i l ∙ first.values i l;
@@ -125,11 +136,11 @@ module _ {words : List ℕ} {v at k : ℕ} {s : List ℕ} (m : Markable words v 
       reaches j (to_right q) = second.here
       reaches j (to_inner q h) = absurd (omega (arith, under_number (row_at words k).kind q))
 
-  pub handed_under :
+  under_handed :
       (row_at words k).kind ≡ 4
       → (get_or s (row_at words k).a 0 ≡ 0 → ⊥)
       → HandedOn words at k s (set s (at + (row_at words k).b) 1)
-  handed_under e holding =
+  under_handed e holding =
       record {
         same = one.same;
         values = one.values;
@@ -167,18 +178,72 @@ module _ {words : List ℕ} {v at k : ℕ} {s : List ℕ} (m : Markable words v 
         behind = λ j l. refl;
       }
 
-  pub handed_shut : (row_at words k).kind ≡ 4 → get_or s (row_at words k).a 0 ≡ 0 → HandedOn words at k s s
-  handed_shut e z = idle none
+  under_shut : (row_at words k).kind ≡ 4 → get_or s (row_at words k).a 0 ≡ 0 → HandedOn words at k s s
+  under_shut e z = idle none
     where
       none : (j : ℕ) → HandsTo words (on s) k j → ⊥
       none j (to_left q) = omega (arith, both_number (row_at words k).kind q)
       none j (to_right q) = omega (arith, both_number (row_at words k).kind q)
       none j (to_inner q h) = false≢true (sym (zero_off s (row_at words k).a z) ∙ h)
 
-  pub handed_none : ((row_at words k).kind ≡ 3 → ⊥) → ((row_at words k).kind ≡ 4 → ⊥) → HandedOn words at k s s
-  handed_none d e = idle none
+  none_handed : ((row_at words k).kind ≡ 3 → ⊥) → ((row_at words k).kind ≡ 4 → ⊥) → HandedOn words at k s s
+  none_handed d e = idle none
     where
       none : (j : ℕ) → HandsTo words (on s) k j → ⊥
       none j (to_left q) = d (both_number (row_at words k).kind q)
       none j (to_right q) = d (both_number (row_at words k).kind q)
       none j (to_inner q h) = e (under_number (row_at words k).kind q)
+
+-- a row that keeps its rule is of a known kind
+no_rule : (v at k a b n : ℕ) → 5 ≤ n → EffectRule v at k (effect_kind n) a b → ⊥
+unfolding effect_kind
+no_rule v at k a b n h rule =
+    let m : n ≡ suc (suc (suc (suc (suc (n - 5))))) = omega arith in
+    rw m at rule
+
+pub known :
+    {words : List ℕ} {v at k : ℕ} {s : List ℕ}
+    → Markable words v at k s
+    → {row : TableRow}
+    → row ≡ words_at Effects words k
+    → (r : Result Kind UnknownKind)
+    → EffectKindOf row.first r
+    → IsOk r
+known m read (Ok kind) tried = refl
+known {words} {v} {at} {k} m read (Err e) tried =
+    let w = row_at words k in
+    absurd (no_rule v at k w.a w.b w.kind (rw read at tried) (m.rule k (omega arith)))
+
+-- by the kind of row k: what is asked of it, and what handing on leaves
+module _
+    {words : List ℕ} {v at k : ℕ} {s : List ℕ} (m : Markable words v at k s)
+    {row : TableRow} (read : row ≡ words_at Effects words k)
+    {r : Result Kind UnknownKind} (tried : EffectKindOf row.first r)
+    {kind : Kind} (unwrapped : r ≡ Ok kind) where
+  number : (row_at words k).kind ≡ effect_number kind
+  number =
+      let of : EffectKindOf row.first (Ok kind) = rw unwrapped at tried in
+      sym (ap (λ (x : TableRow). x.first) read) ∙ of
+
+  pub both_there : kind ≡ kinds.Both → at + row.second < length s
+  both_there e = rw read (omega (arith, m.marks, both_refs m (number ∙ ap effect_number e)))
+
+  pub under_there : kind ≡ kinds.Under → row.second < length s
+  under_there e = rw read (omega (arith, m.marks, under_refs m (number ∙ ap effect_number e)))
+
+  pub handed_both : kind ≡ kinds.Both → HandedOn words at k s (set (set s (at + row.second) 1) (at + row.third) 1)
+  handed_both e = rw read (both_handed m (number ∙ ap effect_number e))
+
+  pub handed_under :
+      kind ≡ kinds.Under
+      → (get_or s row.second 0 ≡ 0 → ⊥)
+      → HandedOn words at k s (set s (at + row.third) 1)
+  handed_under e holding = rw read (under_handed m (number ∙ ap effect_number e) (rw read at holding))
+
+  pub handed_shut : kind ≡ kinds.Under → get_or s row.second 0 ≡ 0 → HandedOn words at k s s
+  handed_shut e shut = under_shut m (number ∙ ap effect_number e) (rw read at shut)
+
+  pub handed_none : (kind ≡ kinds.Empty) ⊎ ((kind ≡ kinds.Set) ⊎ (kind ≡ kinds.Clear)) → HandedOn words at k s s
+  handed_none (inl e) = let n = number ∙ ap effect_number e in none_handed m (omega arith) (omega arith)
+  handed_none (inr (inl e)) = let n = number ∙ ap effect_number e in none_handed m (omega arith) (omega arith)
+  handed_none (inr (inr e)) = let n = number ∙ ap effect_number e in none_handed m (omega arith) (omega arith)

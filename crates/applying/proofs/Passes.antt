@@ -1,34 +1,54 @@
 -- Laws of carrying out an effect: what each turn of a pass over its marked rows leaves, and what the two passes come to. Assumes nothing.
-use Prim.Native.Nat.{ℕ, zero, suc, ◌≤◌, ◌+◌, ◌-◌, ◌<◌}
+use Prim.Native.Nat.{ℕ, zero, suc, ◌≤◌, ◌+◌, ◌<◌}
 use native.Mathlib.Numerals.{add-one}
 use native.Mathlib.Omega.{arith}
 use mathlib.Core.Path.{◌≡◌, refl, sym, ap, ◌∙◌}
-use mathlib.Core.Bool.{Bool, true, false, cond, false≢true}
+use mathlib.Core.Bool.{Bool, true, false, cond}
 use mathlib.Core.List.{List}
 use lib.ListN.{length, get_or, set, length-set}
 use lib.Dec.{eqb}
 use borrow.Author.Tests.{eq-eqb, ne_eqb, eqb-true}
+use Rattle.task.specs.declared.Table.TheVariants.{Effects}
+use Rattle.task.specs.declared.TableRow.{TableRow}
+use Rattle.task.specs.declared.kinds.EffectKind.{EffectKind as Kind}
+use Rattle.task.specs.declared.kinds.EffectKind.TheVariants as kinds
+use Rattle.task.specs.contracts.kinds.EffectKind.{the_type}
+use Rattle.task.specs.Kinds.{effect_number}
+use denote.Enum.Declared.{tag_of}
+use Rattle.task.specs.Inner.Tables.{words_at}
 use Rattle.task.specs.Table.{row_at, effect_kind}
 use Rattle.task.specs.Rules.{EffectRule}
 use Rattle.task.proofs.Bounded.{and_right}
 use Rattle.task.proofs.KindNumbers.{by_effect_kind}
-use Rattle.evaluating.specs.Inner.Values.{Valued}
-use Rattle.applying.specs.Inner.Marks.{on, marked, acts, changed, Changeable, Markable, Marked}
-use Rattle.applying.specs.Inner.Carrying.{ConditionsReady, Decided, Decides, AtomsCarried, Carried}
+use Rattle.applying.specs.Inner.Marks.{on, marked, acts, changed, Changeable, Markable}
+
+-- the number of a kind, as the code casts it
+same_number : (kind : Kind) → tag_of the_type kind ≡ effect_number kind
+same_number kinds.Empty = refl
+same_number kinds.Set = refl
+same_number kinds.Clear = refl
+same_number kinds.Both = refl
+same_number kinds.Under = refl
 
 pub acts_not_marked : (words : List ℕ) (kind : ℕ) (scratch : List ℕ) (at k : ℕ)
     → get_or scratch (at + k) 0 ≡ 0 → acts words kind scratch at k ≡ false
 unfolding acts on
 acts_not_marked words kind scratch at k e = rw (eq-eqb (get_or scratch (at + k) 0) 0 e)
 
-module _ (words : List ℕ) (kind : ℕ) (scratch : List ℕ) (at k : ℕ) (m : get_or scratch (at + k) 0 ≡ 0 → ⊥) where
-  pub acts_other_kind : ((row_at words k).kind ≡ kind → ⊥) → acts words kind scratch at k ≡ false
+module _
+    (words : List ℕ) (kind : Kind) (scratch : List ℕ) (at k : ℕ) (m : get_or scratch (at + k) 0 ≡ 0 → ⊥)
+    {row : TableRow} (read : row ≡ words_at Effects words k) where
+  pub acts_other_kind : (row.first ≡ tag_of the_type kind → ⊥) → acts words (effect_number kind) scratch at k ≡ false
   unfolding acts on
-  acts_other_kind d = rw (ne_eqb (get_or scratch (at + k) 0) 0 m, ne_eqb (row_at words k).kind kind d)
+  acts_other_kind d =
+      rw (ne_eqb (get_or scratch (at + k) 0) 0 m)
+      (ne_eqb (row_at words k).kind (effect_number kind) (λ e. d (ap (λ (x : TableRow). x.first) read ∙ e ∙ sym (same_number kind))))
 
-  pub acts_marked : (row_at words k).kind ≡ kind → acts words kind scratch at k ≡ true
+  pub acts_marked : row.first ≡ tag_of the_type kind → acts words (effect_number kind) scratch at k ≡ true
   unfolding acts on
-  acts_marked e = rw (ne_eqb (get_or scratch (at + k) 0) 0 m, eq-eqb (row_at words k).kind kind e)
+  acts_marked e =
+      rw (ne_eqb (get_or scratch (at + k) 0) 0 m)
+      (eq-eqb (row_at words k).kind (effect_number kind) (sym (ap (λ (x : TableRow). x.first) read) ∙ e ∙ same_number kind))
 
 -- what a pass has done before row n
 pub record Passing (words : List ℕ) (kind value : ℕ) (scratch : List ℕ) (at n : ℕ) (s t : List ℕ) : Type 0 where
@@ -47,13 +67,27 @@ module _ {words : List ℕ} {kind value : ℕ} {scratch : List ℕ} {at : ℕ} w
 
     pub act :
         acts words kind scratch at n ≡ true
-        → Passing words kind value scratch at (n + 1) s (set t (row_at words n).a value)
+        → {row : TableRow}
+        → row ≡ words_at Effects words n
+        → Passing words kind value scratch at (n + 1) s (set t row.second value)
     unfolding changed
-    act e =
-        record {
+    act e read =
+        rw read
+        (record {
           same = length-set t (row_at words n).a value ∙ p.same;
           done = rw (add-one n, changed, e) (ap (λ (l : List ℕ). set l (row_at words n).a value) p.done);
-        }
+        })
+
+    -- a row that acts names a variable of the state
+    pub inside :
+        {rows : ℕ}
+        → Changeable words kind scratch at rows (length s)
+        → n < rows
+        → acts words kind scratch at n ≡ true
+        → {row : TableRow}
+        → row ≡ words_at Effects words n
+        → row.second < length t
+    inside c l e read = rw (read, p.same) (c.named n l e)
 
 -- the rows that act name variables, for sets and for clears
 atom_named : (v at k n a b : ℕ) → 1 ≤ n → n ≤ 2 → EffectRule v at k (effect_kind n) a b → a < v
@@ -95,57 +129,3 @@ module _ (words : List ℕ) (kind value : ℕ) (scratch : List ℕ) (at : ℕ) (
       go : (b : Bool) → length t ≡ length s → length (cond b (set t (row_at words n).a value) t) ≡ length s
       go true same = length-set t (row_at words n).a value ∙ same
       go false same = same
-
--- the ways out of `decide`
-pub all_decided :
-    {decided : Bool} {f e : List ℕ} {at root : ℕ} {s scratch : List ℕ}
-    → decided ≡ true
-    → Decides decided f e at root s scratch scratch
-all_decided q = record { kept = λ x. refl; new = λ x. absurd (false≢true (sym x ∙ q)) }
-
-pub now_decided :
-    {decided : Bool} {f e : List ℕ} {at root : ℕ} {s before values after : List ℕ}
-    → decided ≡ false
-    → length values ≡ length before
-    → Valued f at s before values
-    → Marked e at root values after
-    → Decides decided f e at root s before after
-now_decided {values = values} q long valued marking =
-    record {
-      kept = λ x. absurd (false≢true (sym q ∙ x));
-      new = λ x. record { values = values; same = long; evaluating = valued; marking = marking };
-    }
-
--- after the first pass all is decided
-pub decided_ready :
-    {f e : List ℕ} {from at root value : ℕ} {s half before marks : List ℕ}
-    → ConditionsReady false f e from at root s before
-    → AtomsCarried false f e at root value s half before marks
-    → ConditionsReady true f e from at root half marks
-decided_ready {f} {e} {from} {at} {root} {value} {s} {half} {before} {marks} ready done =
-    record {
-      formulas = λ q. absurd (false≢true (sym q));
-      effects =
-          record {
-            rows = ready.effects.rows;
-            marks = omega (arith, ready.effects.marks, d.same, d.marking.same);
-            rule = λ k l. rw long (ready.effects.rule k l);
-          };
-    }
-  where
-    d : Decided f e at root s before marks
-    d = done.deciding.new refl
-
-    long : length half ≡ length s
-    long = ap length done.state ∙ length_changed e (2 - value) value marks at s (root + 1)
-
--- the conditions are decided, then come the clears, then the sets by the same marks
-pub carried :
-    {f e : List ℕ} {at root : ℕ} {s half after before marks rest : List ℕ}
-    → Decided f e at root s before marks
-    → half ≡ changed e 2 0 marks at (root + 1) s
-    → rest ≡ marks
-    → after ≡ changed e 1 1 rest at (root + 1) half
-    → Carried f e at root s after before rest
-carried {e = e} {at = at} {root = root} d one same two =
-    record { deciding = rw same d; state = two ∙ rw (one, same) }

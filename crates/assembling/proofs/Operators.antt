@@ -4,7 +4,6 @@ use native.Mathlib.Omega.{arith}
 use native.Mathlib.Numerals.{add-one}
 use native.Mathlib.Decide.{dec_le}
 use mathlib.Core.Path.{◌≡◌, refl, sym, ap, ◌∙◌}
-use mathlib.Core.Bool.{true, false, true≢false}
 use mathlib.Core.List.{List, [], ◌∷◌, ◌++◌}
 use lib.ListN.{length, replicate, length-append}
 use Rattle.task.specs.Bounded.{upto}
@@ -22,29 +21,26 @@ use Rattle.normal_form.proofs.ShapeCounts.{assemble_split}
 use Rattle.formula_builder.specs.declared.Words.{Words}
 use Rattle.formula_builder.specs.Inner.Held.{row_of}
 use Rattle.rule_writer.specs.declared.Chain.{Chain}
-use Rattle.rule_writer.specs.declared.Frame.{Frame}
-use Rattle.rule_writer.specs.Inner.Writes.{Holds, Writes, Ready as RuleReady}
-use Rattle.rule_writer.proofs.Writing.{writes_none, writes_as, writes_variable}
+use Rattle.rule_writer.specs.declared.Changes.{Changes as CodeChanges}
+use Rattle.rule_writer.specs.Inner.Writes.{changes_in, Holds, Ready as RuleReady, Wrote, Overfull}
+use Rattle.rule_writer.proofs.Writing.{wrote_none, wrote_variable, overfull_variable, overfull_still}
 use Rattle.rule_writer.specs.Inner.Places.{begun}
 use Rattle.change_records.specs.Inner.Recorded.{change_at, changes_from}
-use Rattle.assembling.specs.Inner.Assembles.{changes_between, built_of, begins_at, built_in, assembled_in, WritesOperator, Holding, WroteOperator, InOrder, Assembles, AssembledAll}
+use Rattle.assembling.specs.Inner.Assembles.{changes_between, built_of, begins_at, built_in, assembled_in, Holding, WroteRow, OverfullRow, InOrder, Written}
 
--- a change, as it is read
-abbrev change_in : Words → Changes
-change_in w = record { variable = w.kind; adds = w.a; deletes = w.b }
-
-change_is : (records : List ℕ) (i : ℕ) {w : Words} → row_of w ≡ row_at records (256 + i) → change_at records i ≡ change_in w
-unfolding change_at
-change_is records i words = ap (λ (r : Row). record { variable = r.kind; adds = r.a; deletes = r.b }) (sym words)
-
+-- a change as it is read
 pub change_below :
-    {n k end : ℕ} (records : List ℕ) (i : ℕ) {w : Words}
+    {n k end : ℕ} (records : List ℕ) (i : ℕ) {c : CodeChanges}
     → InOrder n records k end
     → k ≤ i
     → i < end
-    → row_of w ≡ row_at records (256 + i)
-    → w.kind < n
-change_below records i a h l words = omega (arith, a.below i h l, ap (λ (c : Changes). c.variable) (change_is records i words))
+    → changes_in c ≡ change_at records i
+    → c.variable < n
+change_below records i a h l is = omega (arith, a.below i h l, ap (λ (x : Changes). x.variable) is)
+
+pub changed_rules :
+    (n : ℕ) (twins records : List ℕ) (i : ℕ) {c : CodeChanges} → changes_in c ≡ change_at records i → rules_of n twins (change_at records i) ≡ rules_of n twins (changes_in c)
+changed_rules n twins records i is = ap (rules_of n twins) (sym is)
 
 -- The changes one after another.
 module _ (n : ℕ) (twins records : List ℕ) where
@@ -64,65 +60,97 @@ module _ (n : ℕ) (twins records : List ℕ) where
   pub records_none :
       {room : ℕ} {chain : Chain} {out : List ℕ} (k : ℕ)
       → RuleReady room chain out
-      → Writes (rules n twins (changes_between records k k)) room chain out out chain
-  records_none k ready = writes_none ready (rw (between_none k) (unfold rules in refl))
+      → Wrote (rules n twins (changes_between records k k)) room chain out out chain
+  records_none k ready = wrote_none ready (rw (between_none k) (unfold rules in refl))
 
-  pub records_more :
-      {room : ℕ} {chain a r : Chain} {out out2 out3 : List ℕ} (k i : ℕ) (w : Words)
-      → k ≤ i
-      → row_of w ≡ row_at records (256 + i)
-      → Writes (rules n twins (changes_between records k i)) room chain out out2 a
-      → Writes (rules_of n twins (change_in w)) room a out2 out3 r
-      → Writes (rules n twins (changes_between records k (i + 1))) room chain out out3 r
-  records_more k i w h words x y =
-      rw (between_more k i h)
-      (writes_variable n twins (changes_between records k i) (change_at records i) x
-      (writes_as (ap (rules_of n twins) (change_is records i words)) y))
+  module _ {room : ℕ} {chain : Chain} {out : List ℕ} (k : ℕ) where
+    pub records_more :
+        {a r : Chain} {out2 out3 : List ℕ} (i : ℕ)
+        → k ≤ i
+        → Wrote (rules n twins (changes_between records k i)) room chain out out2 a
+        → Wrote (rules_of n twins (change_at records i)) room a out2 out3 r
+        → Wrote (rules n twins (changes_between records k (i + 1))) room chain out out3 r
+    records_more i h x y =
+        rw (between_more k i h) (wrote_variable n twins (changes_between records k i) (change_at records i) x y)
 
-  pub records_all :
-      {room : ℕ} {chain r : Chain} {out out' : List ℕ} (k i end : ℕ)
-      → i ≡ end
-      → Writes (rules n twins (changes_between records k i)) room chain out out' r
-      → Writes (rules n twins (changes_between records k end)) room chain out out' r
-  records_all k i end e x = rw (sym e) x
+    still : (i j : ℕ) → k ≤ i → Overfull (rules n twins (changes_between records k i)) room chain out
+        → Overfull (rules n twins (changes_between records k (i + j))) room chain out
+    still i zero h x =
+        let e : i + 0 ≡ i = omega arith in
+        rw e x
+    still i (suc j) h x =
+        let e : i + suc j ≡ i + j + 1 = omega arith in
+        rw (e, between_more k (i + j) (omega arith))
+        (overfull_still n twins (changes_between records k (i + j)) (change_at records (i + j)) (still i j h x))
+
+    -- no room for the rules of a change, and so none for those of all
+    pub records_overfull :
+        {a : Chain} {out2 : List ℕ} (i end : ℕ)
+        → k ≤ i
+        → i < end
+        → Wrote (rules n twins (changes_between records k i)) room chain out out2 a
+        → Overfull (rules_of n twins (change_at records i)) room a out2
+        → Overfull (rules n twins (changes_between records k end)) room chain out
+    records_overfull i end h b x y =
+        let e : i + 1 + (end - (i + 1)) ≡ end = omega arith in
+        rw (← e)
+        (still (i + 1) (end - (i + 1)) (omega arith)
+        (rw (between_more k i h) (overfull_variable n twins (changes_between records k i) (change_at records i) x y)))
+
+    pub records_all :
+        {r : Chain} {out' : List ℕ} (i end : ℕ)
+        → i ≡ end
+        → Wrote (rules n twins (changes_between records k i)) room chain out out' r
+        → Wrote (rules n twins (changes_between records k end)) room chain out out' r
+    records_all i end e x = rw (sym e) x
 
 -- One operator: its rules, then its row, which is the source's with another precondition and effect.
-module _ (n : ℕ) (twins records : List ℕ) (w : Row) (k : ℕ) (source : Operator) {room rows o : ℕ} {r : Chain}
-    {out out' operators operators' : List ℕ} (y : Writes (rules n twins (changes_between records k w.a)) room (begun rows) out out' r)
-    (space : operator_width * o + operator_width ≤ length operators)
-    (stored : operators' ≡ operator_stored operators o (with_parts source w.kind r.stands)) where
-  held_before : (a : Assembled) → Holding a rows o out operators → Holds (unwritten a.effects) (begun rows) out
-  held_before a h = record { rows = h.effect_rows; stands = refl; words = h.effect_words }
+held_before : {rows o : ℕ} {out operators : List ℕ} (a : Assembled) → Holding a rows o out operators → Holds (unwritten a.effects) (begun rows) out
+held_before a h = record { rows = h.effect_rows; stands = refl; words = h.effect_words }
 
+module _ (n : ℕ) (twins records : List ℕ) (w : Row) (k : ℕ) (source : Operator) {o : ℕ} {operators : List ℕ} where
   -- behind the operators that stand, one more
   row_written :
-      (before : List Operator) (stands : ℕ)
+      {operators' : List ℕ} (before : List Operator) (stands its : ℕ)
+      → operator_width * o + operator_width ≤ length operators
+      → operators' ≡ operator_stored operators o (with_parts source w.kind stands)
       → length before ≡ o
       → operators ≡ padded (length operators) (operator_words before)
-      → stands ≡ r.stands
-      → operators' ≡ padded (length operators') (operator_words (before ++ (with_parts source w.kind stands ∷ [])))
-  row_written before stands count held e =
-      let row : Operator = with_parts source w.kind r.stands in
-      let long : length operators' ≡ length operators = ap length stored ∙ length_operator_stored operators o row in
+      → its ≡ stands
+      → operators' ≡ padded (length operators') (operator_words (before ++ (with_parts source w.kind its ∷ [])))
+  row_written before stands its space stored count held e =
+      let row : Operator = with_parts source w.kind stands in
+      let long = ap length stored ∙ length_operator_stored operators o row in
       rw (e, long)
       (stored
       ∙ ap (λ (t : List ℕ). operator_stored t o row) held
       ∙ padded_operator (length operators) before o row count space)
 
-  pub operator_written : WroteOperator (built_of records w k source) n twins room rows o r out out' operators operators'
+  pub operator_written :
+      {room rows : ℕ} {r : Chain} {out out' operators' : List ℕ}
+      → Wrote (rules n twins (changes_between records k w.a)) room (begun rows) out out' r
+      → operator_width * o + operator_width ≤ length operators
+      → operators' ≡ operator_stored operators o (with_parts source w.kind r.stands)
+      → WroteRow (built_of records w k source) n twins rows o out out' operators operators' r.rows
   unfolding assemble_operator built_of
-  operator_written =
+  operator_written {r = r} y space stored =
       record {
-        done = λ a h q.
-            let s = y.done (unwritten a.effects) (held_before a h) q in
+        done = λ a h.
+            let s = y.done (unwritten a.effects) (held_before a h) in
             record {
               effect_rows = s.rows;
               operator_rows = length-append a.operators (_ ∷ []) ∙ omega (arith, h.operator_rows);
               effect_words = s.words;
-              held_operators = row_written a.operators _ h.operator_rows h.held_operators s.stands;
+              held_operators = row_written a.operators r.stands _ space stored h.operator_rows h.held_operators s.stands;
             };
-        over = λ a h q few. y.over (unwritten a.effects) (held_before a h) refl q few;
       }
+
+  pub operator_overfull :
+      {room rows : ℕ} {out : List ℕ}
+      → Overfull (rules n twins (changes_between records k w.a)) room (begun rows) out
+      → OverfullRow (built_of records w k source) n twins room rows o out operators
+  unfolding assemble_operator built_of
+  operator_overfull y = record { over = λ a h few. y.over (unwritten a.effects) (held_before a h) few }
 
 -- where an operator's changes begin
 module _ (records : List ℕ) where
@@ -202,69 +230,37 @@ module _ (n : ℕ) (twins operators records : List ℕ) where
       none : (m : ℕ) → padded m [] ≡ padded m (operator_words unassembled.operators)
       none m = unfold unassembled operator_words in refl
 
-  module _ {room rows k : ℕ} {r : Chain} {out out' outs outs' : List ℕ} (o : ℕ) (w : Words) (words : row_of w ≡ row_at records o)
-      (from : k ≡ begins_at records o) (h : Holding (assembled_in n twins operators records o) rows o out outs)
-      (x : WroteOperator (built_of records (row_of w) k (operator_at operators o)) n twins room rows o r out out' outs outs') where
+  module _ {rows k : ℕ} {out outs : List ℕ} (o : ℕ) (w : Words) (words : row_of w ≡ row_at records o)
+      (from : k ≡ begins_at records o) (h : Holding (assembled_in n twins operators records o) rows o out outs) where
     its : built_of records (row_of w) k (operator_at operators o) ≡ built_in operators records o
     unfolding built_in
     its = rw (words, from)
 
-    one_more : WroteOperator (built_in operators records o) n twins room rows o r out out' outs outs'
-    one_more = rw its at x
-
-    pub assembling_more : r.full ≡ false → Holding (assembled_in n twins operators records (o + 1)) r.rows (o + 1) out' outs'
-    assembling_more q = rw (assembled_more o) (one_more.done (assembled_in n twins operators records o) h q)
+    pub assembling_more :
+        {r : ℕ} {out' outs' : List ℕ}
+        → WroteRow (built_of records (row_of w) k (operator_at operators o)) n twins rows o out out' outs outs' r
+        → Holding (assembled_in n twins operators records (o + 1)) r (o + 1) out' outs'
+    assembling_more x = rw (assembled_more o, ← its) (x.done (assembled_in n twins operators records o) h)
 
     pub assembling_stop :
-        (count : ℕ) → o < count → r.full ≡ true → AssembledAll (assembled_in n twins operators records count) room count r out' outs'
-    assembling_stop count b q =
-        record {
-          within = λ e. absurd (true≢false (sym q ∙ e));
-          nothing_stands = λ e. absurd (true≢false (sym q ∙ e));
-          done = λ e. absurd (true≢false (sym q ∙ e));
-          over = λ _ few.
-              one_more.over (assembled_in n twins operators records o) h q
-              (omega (
-                arith,
-                ap (λ (a : Assembled). length a.effects) (assembled_more o),
-                assembled_fewer (o + 1) count (omega arith),
-              ));
-        }
+        {room : ℕ} (count : ℕ)
+        → o < count
+        → OverfullRow (built_of records (row_of w) k (operator_at operators o)) n twins room rows o out outs
+        → length (assembled_in n twins operators records count).effects ≤ room
+        → ⊥
+    assembling_stop count b x few =
+        x.over (assembled_in n twins operators records o) h
+        (rw its
+        (omega (
+          arith,
+          ap (λ (a : Assembled). length a.effects) (assembled_more o),
+          assembled_fewer (o + 1) count (omega arith),
+        )))
 
   pub assembling_done :
       {room rows : ℕ} {out outs : List ℕ} (o count : ℕ)
       → o ≡ count
       → Holding (assembled_in n twins operators records o) rows o out outs
       → rows ≤ room
-      → AssembledAll (assembled_in n twins operators records count) room count (begun rows) out outs
-  assembling_done o count e h most =
-      record { within = λ _. most; nothing_stands = λ _. refl; done = λ _. rw (sym e) h; over = λ q few. true≢false (sym q) }
-
--- what one operator asks
-pub asks_operator :
-    {frame : Frame} {operators records places out₀ written₀ out written : List ℕ} {count o k rows : ℕ} (w : Words)
-    → Assembles frame operators records count out₀ written₀
-    → frame.variables ≤ length places
-    → o < count
-    → row_of w ≡ row_at records o
-    → k ≡ begins_at records o
-    → rows ≤ frame.room
-    → length out ≡ length out₀
-    → length written ≡ length written₀
-    → WritesOperator frame operators records places (row_of w) o k rows out written
-asks_operator {o = o} w a all h words from most long wide =
-    record {
-      changes =
-          record {
-            ready =
-                record {
-                  rows = record { within = most; space = omega (arith, a.space, long); limit = a.rows_limit };
-                  variables = a.variables;
-                };
-            each_placed = all;
-            room = a.room;
-            in_order = rw (from, ap (λ (r : Row). r.a) words) (a.in_order o h);
-          };
-      words = omega (arith, a.words);
-      space = omega (arith, a.operator_space, wide);
-    }
+      → Written (assembled_in n twins operators records count) room count out outs rows
+  assembling_done o count e h most = record { done = rw (sym e) h; within = most }

@@ -5,18 +5,16 @@ use native.Mathlib.Decide.{dec_lt}
 use mathlib.Core.Path.{◌≡◌, refl, sym, ap, ◌∙◌}
 use mathlib.Core.Bool.{Bool, true, false, cond}
 use mathlib.Core.List.{List}
-use lib.Dec.{eqb}
-use mir.Val.{bool_byte}
 use lib.ListN.{length, get_or, set}
 use lib.Seq.{get_or-set_same, get_or-set_other}
-use borrow.Author.Tests.{eqb-true, eq-eqb, ne_eqb}
+use borrow.Author.Tests.{eqb-true, eq-eqb}
 use Rattle.task.specs.Table.{row_at}
 use Rattle.formula_builder.specs.declared.Words.{Words}
 use Rattle.formula_builder.specs.declared.Frame.{Frame}
 use Rattle.formula_builder.specs.Inner.Held.{row_of}
 use Rattle.atom_sets.specs.Inner.Sets.{set_words, set_place, sets_end, atom_bit, lacks, InSet}
 use Rattle.atom_sets.specs.Inner.Finds.{set_start, united, copied, Room, Written, Within, FindsSets, FindsSet, SetOf, FoundSet, FoundSets}
-use Rattle.atom_sets.proofs.Places.{row_more, place_within, word_within, byte_small, bit_is}
+use Rattle.atom_sets.proofs.Places.{row_more, place_within, word_within}
 use Rattle.atom_sets.proofs.Words.{or_lacks, one_shifted, one_stands}
 
 -- Where sets begin and end.
@@ -67,20 +65,23 @@ module _ (frame : Frame) where
 
 -- the code's word of one bit is the definition's
 pub put_by :
-    (frame : Frame) (notes : List ℕ) (clear : Bool) (v e k : ℕ)
+    (frame : Frame) (notes : List ℕ) (clear : Bool) (v e k bit : ℕ)
     → k ≡ set_place frame v e
-    → set notes k (1 * 2 ^ (2 * (v % 8) + bool_byte clear) % 65536) ≡ set notes (set_place frame v e) (2 ^ atom_bit clear v)
-put_by frame notes clear v e k q =
-    rw (one_shifted (2 * (v % 8) + bool_byte clear) (omega (arith, byte_small clear)), bit_is clear v, q)
+    → bit ≡ atom_bit clear v
+    → bit < 16
+    → set notes k (1 * 2 ^ bit % 65536) ≡ set notes (set_place frame v e) (2 ^ atom_bit clear v)
+put_by frame notes clear v e k bit q r h = rw (one_shifted bit h, r, q)
 
 -- the kinds of atoms
 atom_kind : (clear : Bool) → (0 < cond clear 2 1) × (cond clear 2 1 < 3)
 atom_kind true = (omega arith, omega arith)
 atom_kind false = (omega arith, omega arith)
 
-clear_is : (clear : Bool) (k : ℕ) → k ≡ cond clear 2 1 → eqb k 2 ≡ clear
-clear_is true k e = eq-eqb k 2 e
-clear_is false k e = ne_eqb k 2 (λ z. omega arith)
+same_kind : (clear other : Bool) → cond {A = ℕ} clear 2 1 ≡ cond other 2 1 → clear ≡ other
+same_kind true true e = refl
+same_kind true false e = absurd (omega arith)
+same_kind false true e = absurd (omega arith)
+same_kind false false e = refl
 
 -- Row i with the words w.
 module _ {frame : Frame} {effects before : List ℕ} {i : ℕ} (f : FindsSet frame effects before i) (w : Words) (q : row_of w ≡ row_at effects i) where
@@ -104,17 +105,18 @@ module _ {frame : Frame} {effects before : List ℕ} {i : ℕ} (f : FindsSet fra
   pub row_within : (e : ℕ) → e ≤ i → Within frame e
   row_within e h = record { variables = f.finds.variables; limit = f.finds.limit; effect = omega (arith, f.effect) }
 
-  pub atom_within : (w.kind ≡ 3 → ⊥) → (w.kind ≡ 4 → ⊥) → (w.kind ≡ 0 → ⊥) → InSet frame w.a i
-  atom_within three four none =
+  pub kind_known : w.kind ≤ 4
+  kind_known = omega (arith, f.finds.known i f.effect, kind_is)
+
+  pub atom_within : (clear : Bool) → w.kind ≡ cond clear 2 1 → InSet frame w.a i
+  atom_within clear k =
       record {
         variables = f.finds.variables;
         limit = f.finds.limit;
-        variable = omega (arith, f.finds.atom i f.effect (λ z. none (sym kind_is ∙ z)) low, a_is);
+        variable =
+            omega (arith, f.finds.atom i f.effect (λ z. omega (arith, kind_is, atom_kind clear)) (omega (arith, kind_is, atom_kind clear)), a_is);
         effect = f.effect;
       }
-    where
-      low : (row_at effects i).kind < 3
-      low = omega (arith, f.finds.known i f.effect, kind_is, three, four)
 
   -- The set of row i begins at `to`, and takes n words.
   module _ {n to : ℕ} (m : n ≡ set_words frame) (t : to ≡ set_start frame i) where
@@ -212,36 +214,34 @@ module _ {frame : Frame} {effects before : List ℕ} {i : ℕ} (f : FindsSet fra
       }
 
   pub found_atom :
-      {after : List ℕ}
-      → (w.kind ≡ 3 → ⊥)
-      → (w.kind ≡ 4 → ⊥)
-      → (w.kind ≡ 0 → ⊥)
-      → after ≡ set before (set_place frame w.a i) (2 ^ atom_bit (eqb w.kind 2) w.a)
+      {after : List ℕ} (clear : Bool)
+      → w.kind ≡ cond clear 2 1
+      → after ≡ set before (set_place frame w.a i) (2 ^ atom_bit clear w.a)
       → FoundSet frame effects i before after
-  found_atom {after} three four none e =
+  found_atom {after} clear k e =
       record {
         set =
             record {
-              both = λ clear v h z _. absurd (three (sym kind_is ∙ z));
-              under = λ clear v h z _. absurd (four (sym kind_is ∙ z));
-              atom = λ clear z l. stands clear (sym kind_is ∙ z) (rw a_is at l);
+              both = λ other v h z _. absurd (omega (arith, kind_is, atom_kind clear));
+              under = λ other v h z _. absurd (omega (arith, kind_is, atom_kind clear));
+              atom = λ other z l. stands other (same_kind clear other (sym k ∙ sym kind_is ∙ z)) (rw a_is at l);
             };
-        ahead = λ j h. other j (λ z. omega (arith, place_start frame w.a i));
-        behind = λ j h. other j (λ z. omega (arith, place_start frame w.a i, start_next frame i, word_within frame w.a within.variable));
+        ahead = λ j h. elsewhere j (λ z. omega (arith, place_start frame w.a i));
+        behind = λ j h. elsewhere j (λ z. omega (arith, place_start frame w.a i, start_next frame i, word_within frame w.a within.variable));
       }
     where
       within : InSet frame w.a i
-      within = atom_within three four none
+      within = atom_within clear k
 
-      other : (j : ℕ) → (j ≡ set_place frame w.a i → ⊥) → get_or after j 0 ≡ get_or before j 0
-      other j h = rw e (get_or-set_other before (set_place frame w.a i) j (2 ^ atom_bit (eqb w.kind 2) w.a) 0 h)
+      elsewhere : (j : ℕ) → (j ≡ set_place frame w.a i → ⊥) → get_or after j 0 ≡ get_or before j 0
+      elsewhere j h = rw e (get_or-set_other before (set_place frame w.a i) j (2 ^ atom_bit clear w.a) 0 h)
 
-      stands : (clear : Bool) → w.kind ≡ cond clear 2 1 → lacks frame after clear w.a i ≡ true → ⊥
-      stands clear k l =
-          one_stands (atom_bit clear w.a)
-          (of_lacks frame after clear w.a i (2 ^ atom_bit clear w.a)
-          (rw (e, ← place_start frame w.a i, clear_is clear w.kind k)
-          (get_or-set_same before (set_place frame w.a i) (2 ^ atom_bit clear w.a) 0 (omega (arith, place_within within, f.finds.room))))
+      stands : (other : Bool) → clear ≡ other → lacks frame after other w.a i ≡ true → ⊥
+      stands other same l =
+          one_stands (atom_bit other w.a)
+          (of_lacks frame after other w.a i (2 ^ atom_bit other w.a)
+          (rw (e, ← place_start frame w.a i, same)
+          (get_or-set_same before (set_place frame w.a i) (2 ^ atom_bit other w.a) 0 (omega (arith, place_within within, f.finds.room))))
           l)
 
 -- The loop's invariant: the rows below i have their sets.

@@ -7,7 +7,6 @@ use mathlib.Core.Bool.{Bool, true, false, cond}
 use mathlib.Core.List.{List}
 use lib.ListN.{get_or}
 use lib.Dec.{eqb}
-use mir.Val.{bool_byte}
 use lib.Pow.{shr-shr}
 use borrow.Author.Tests.{eqb-true, eq-eqb}
 use Rattle.formula_builder.specs.declared.Frame.{Frame}
@@ -16,11 +15,6 @@ use Rattle.atom_sets.specs.Inner.Sets.{set_words, set_place, sets_end, atom_bit,
 -- a product that fits a word of the machine
 pub product_small : (s e : ℕ) → s ≤ 64 → e ≤ 4096 → s * e ≤ 262144
 product_small s e h g = mul-le-mul {n₂ = 64} {m₂ = 4096} h g
-
--- the code's number of words is the definition's, and 64 at the most
-pub words_are : (frame : Frame) → frame.variables ≤ 512 → ((frame.variables + 31) / 32 * 4 ≡ set_words frame) × ((frame.variables + 31) / 32 * 4 ≤ 64)
-unfolding set_words
-words_are frame h = (refl, omega (arith, h))
 
 -- there is a word for each variable, and the words are whole fours
 pub word_within : (frame : Frame) (v : ℕ) → v < frame.variables → v / 8 < set_words frame
@@ -68,28 +62,14 @@ lacks_same frame notes notes' clear v e h g same =
     let x = place_before frame v e h g in
     rw (same (set_place frame v e) x.0 x.1)
 
--- the code's word is the definition's
-pub place_is :
-    (frame : Frame) (v e s : ℕ) → s ≡ set_words frame → 4 * frame.effects + (s * e + v / 8) ≡ set_place frame v e
-unfolding set_place
-place_is frame v e s q = rw q
-
-pub byte_small : (b : Bool) → bool_byte b ≤ 1
-byte_small true = omega arith
-byte_small false = omega arith
-
 -- the code's word and bit are the definition's
-pub bit_is : (clear : Bool) (v : ℕ) → 2 * (v % 8) + bool_byte clear ≡ atom_bit clear v
-unfolding atom_bit
-bit_is true v = refl
-bit_is false v = refl
-
 pub lacks_by :
-    (frame : Frame) (notes : List ℕ) (clear : Bool) (v e k : ℕ)
+    (frame : Frame) (notes : List ℕ) (clear : Bool) (v e k bit : ℕ)
     → k ≡ set_place frame v e
-    → eqb (get_or notes k 0 / 2 ^ (2 * (v % 8) + bool_byte clear) % 2) 0 ≡ lacks frame notes clear v e
+    → bit ≡ atom_bit clear v
+    → eqb (get_or notes k 0 / 2 ^ bit % 2) 0 ≡ lacks frame notes clear v e
 unfolding lacks
-lacks_by frame notes clear v e k q = rw (q, bit_is clear v)
+lacks_by frame notes clear v e k bit q r = rw (q, r)
 
 -- the code's end is the definition's
 pub end_is : (frame : Frame) (s : ℕ) → s ≡ set_words frame → 4 * frame.effects + s * frame.effects ≡ sets_end frame

@@ -1,13 +1,14 @@
 // The sets of all rows: one pass over the effects, upwards, since the rows that a row names are lower.
 ghost use Rattle.std.specs.Prelude.{◌≡◌, length, set, ◌%◌, ◌^◌, ◌≤◌};
 ghost use Rattle.atom_sets.specs.Inner.Sets.{set_place, sets_end, atom_bit, InSet};
-ghost use Rattle.atom_sets.specs.Inner.Finds.{set_start, united, copied, Room, Written, Within, FindsSets, FindsSet, FoundSet, FoundSets};
+ghost use Rattle.atom_sets.specs.Inner.Finds.{united, copied, Room, Written, FindsSets, FindsSet, FoundSet, FoundSets};
 
-use crate::bits::{set_word, set_words};
+use crate::bits::{atom_bit, set_start, set_word, set_words};
 use formula_builder::{Frame, read_row};
+use task::kinds::EffectKind;
 
 // The four words at i become those at a together with those at b. All are read before one is written, so that one access of memory can take
-// four. Constant cost.
+// four (docs/SPEED.md). Constant cost.
 fn unite_four(notes: &mut [u16], a: usize, b: usize, i: usize)
     requires { Room 4 a i notes.old × Room 4 b i notes.old }
     ensures { Written 4 i (united notes.old a b) notes.old notes.new }
@@ -27,14 +28,13 @@ fn unite(notes: &mut [u16], n: usize, a: usize, b: usize, i: usize)
     requires { (n % 4 ≡ 0) × Room n a i notes.old × Room n b i notes.old }
     ensures { Written n i (united notes.old a b) notes.old notes.new }
 {
-    let mut k = 0;
-    while k < n {
+    for k in (0..n).step_by(4) {
         unite_four(notes, a + k, b + k, i + k);
-        k += 4;
     }
 }
 
-// The four words at i become those at a. All are read before one is written, so that one access of memory can take four. Constant cost.
+// The four words at i become those at a. All are read before one is written, so that one access of memory can take four
+// (docs/SPEED.md). Constant cost.
 fn copy_four(notes: &mut [u16], a: usize, i: usize)
     requires { Room 4 a i notes.old }
     ensures { Written 4 i (copied notes.old a) notes.old notes.new }
@@ -54,10 +54,8 @@ fn copy(notes: &mut [u16], n: usize, a: usize, i: usize)
     requires { (n % 4 ≡ 0) × Room n a i notes.old }
     ensures { Written n i (copied notes.old a) notes.old notes.new }
 {
-    let mut k = 0;
-    while k < n {
+    for k in (0..n).step_by(4) {
         copy_four(notes, a + k, i + k);
-        k += 4;
     }
 }
 
@@ -67,16 +65,7 @@ fn put_atom(notes: &mut [u16], frame: Frame, clear: bool, v: usize, i: usize)
     ensures { notes.new ≡ set notes.old (set_place frame v i) (2 ^ atom_bit clear v) }
 {
     let k = set_word(frame, v, i);
-    let bit = 2 * (v % 8) + clear as usize;
-    notes[k] = 1 << bit;
-}
-
-// Where the set of row e begins. Constant cost.
-fn set_start(frame: Frame, e: usize) -> usize
-    requires { Within frame e }
-    ensures { result ≡ set_start frame e }
-{
-    4 * frame.effects + set_words(frame) * e
+    notes[k] = 1 << atom_bit(clear, v);
 }
 
 // The set of row i, from those of the rows that it names. At the most a step for four words of a set.
@@ -87,21 +76,20 @@ fn set_of(effects: &[u16], frame: Frame, i: usize, notes: &mut [u16])
     let w = read_row(effects, i);
     let n = set_words(frame);
     let to = set_start(frame, i);
-    if w.kind == 3 {
-        let a = set_start(frame, w.a as usize);
-        let b = set_start(frame, w.b as usize);
-        unite(notes, n, a, b, to);
-        return;
+    match EffectKind::try_from(w.kind).unwrap() {
+        EffectKind::Empty => {}
+        EffectKind::Set => put_atom(notes, frame, false, w.a as usize, i),
+        EffectKind::Clear => put_atom(notes, frame, true, w.a as usize, i),
+        EffectKind::Both => {
+            let a = set_start(frame, w.a as usize);
+            let b = set_start(frame, w.b as usize);
+            unite(notes, n, a, b, to);
+        }
+        EffectKind::Under => {
+            let b = set_start(frame, w.b as usize);
+            copy(notes, n, b, to);
+        }
     }
-    if w.kind == 4 {
-        let b = set_start(frame, w.b as usize);
-        copy(notes, n, b, to);
-        return;
-    }
-    if w.kind == 0 {
-        return;
-    }
-    put_atom(notes, frame, w.kind == 2, w.a as usize, i);
 }
 
 // The sets of all rows; the words around them stay. As many steps as there are effects and fours of words in their sets.
@@ -109,9 +97,7 @@ pub fn find_sets(effects: &[u16], frame: Frame, notes: &mut [u16])
     requires { FindsSets frame effects.now notes.old }
     ensures { FoundSets frame effects.now notes.old notes.new }
 {
-    let mut i = 0;
-    while i < frame.effects {
+    for i in 0..frame.effects {
         set_of(effects, frame, i, notes);
-        i += 1;
     }
 }

@@ -3,53 +3,51 @@ use Prim.Native.Nat.{ℕ, ◌+◌, ◌≤◌, ◌<◌}
 use native.Mathlib.Omega.{arith}
 use native.Mathlib.Numerals.{add-one}
 use mathlib.Core.Path.{◌≡◌, refl, sym, ap, ◌∙◌}
-use mathlib.Core.Bool.{Bool, true, false, true≢false}
+use mathlib.Core.Bool.{true, false, true≢false, false≢true}
 use mathlib.Core.List.{List, []}
 use lib.ListN.{length}
+use Rattle.std.specs.Prelude.{Result, Ok, Err}
+use Rattle.std.specs.Result.{IsErr}
+use Rattle.formula_builder.specs.declared.NoRoom.{NoRoom}
+use Rattle.formula_builder.specs.declared.Builder.{Builder}
+use Rattle.building.specs.declared.Progress.{Progress as Answer}
 use Rattle.task.specs.Table.{operator_at}
 use Rattle.normal_form.specs.Builder.{St, Got, give, bind, each, place, start, plain}
 use Rattle.task.specs.Inner.Stored.{three}
 use Rattle.formula_builder.specs.declared.Frame.{Frame}
-use Rattle.formula_builder.specs.declared.Step.{Step}
 use Rattle.formula_builder.specs.Inner.Index.{FirstTwo}
-use Rattle.formula_builder.specs.Inner.Held.{Store, store, held, twin_word, TwinsNamed, Within}
+use Rattle.formula_builder.specs.Inner.Held.{Step, Store, store, held, twin_word, TwinsNamed, Within}
 use Rattle.formula_builder.proofs.Steps.{within_before}
-use Rattle.images.specs.Inner.Images.{image_at, memo_place, Images}
+use Rattle.images.specs.Inner.Images.{image_at, memo_place, Asks, Images}
 use Rattle.images.proofs.Memos.{steady_image_at}
-use Rattle.variable_changes.specs.Inner.Stands.{Leaves}
 use Rattle.conditions.proofs.Memos.{effect_memo_blank}
-use Rattle.variable_changes.proofs.Standing.{stands_next, makes_image, leaves_full}
+use Rattle.variable_changes.proofs.Standing.{stands_next, makes_image}
 use Rattle.change_records.specs.Inner.Recorded.{Opens, Recorded}
-use Rattle.operators.specs.declared.Tally.{Tally}
-use Rattle.operators.specs.Inner.Operator.{operator_built, operators_built, operator_here, BuildsOperator, OperatorWalked}
+use Rattle.operators.specs.Inner.Operator.{operator_built, operators_built, operator_here, BuildsOperator, Tally, OperatorWalked}
 use Rattle.operators.proofs.InOrder.{more_grows}
-use Rattle.building.specs.declared.Progress.{Progress}
-use Rattle.building.specs.Inner.Taken.{size_at, stopped, Fresh, Started, Begun, Blank, Stood, precondition_here, changes_here, many, AllKept, Taken, Takes, Took, TakesGoal, TookGoal, whole_built, FromStart}
-use Rattle.building.proofs.Kept.{many_more, none_kept, one_kept}
+use Rattle.building.specs.Inner.Taken.{Progress, size_at, stopped, progress_by, Fresh, Started, Begun, Blank, Stood, precondition_here, changes_here, many, AllKept, Taken, Takes, Took, whole_built, FromStart}
+use Rattle.building.proofs.Kept.{many_more, many_on, none_kept, one_kept}
 
 abbrev pub begun : Progress
 begun = record { rows = 2; twins = 0; operators = 0; records = 0; full = false }
 
--- the notes are of no use without room
-pub leaves_stopped :
-    {frame : Frame} {formulas effects notes : List ℕ} {s : Store} {r : Progress} {n : ℕ}
-    → r ≡ stopped n
-    → Leaves r.full frame formulas effects notes (size_at r) s
-leaves_stopped e = rw e leaves_full
+-- what `?` returns onward says that there was no room
+pub progress_failed : (b : Builder) (n : ℕ) (r : Result Answer NoRoom) → IsErr r → progress_by b n r ≡ stopped n
+progress_failed b n (Ok x) h = absurd (false≢true h)
+progress_failed b n (Err e) h = refl
 
 -- there is no room for false and true
-pub no_beginning : (frame : Frame) (table : List ℕ) {p : Progress} → frame.rows < 2 → p ≡ stopped 0 → Begun frame table table p
+pub no_beginning : (frame : Frame) (table : List ℕ) → frame.rows < 2 → Begun frame table table (stopped 0)
 unfolding start
-no_beginning frame table h e =
-    rw e
-    (record {
+no_beginning frame table h =
+    record {
       none = refl;
       no_records = refl;
       done = λ g. absurd (true≢false g);
       over = λ _ w. omega (arith, w.rows);
       answer = λ _. refl;
       untouched = λ _. refl;
-    })
+    }
 
 pub beginning :
     (frame : Frame) (table : List ℕ) {after : List ℕ}
@@ -135,23 +133,6 @@ module _ (frame : Frame) (formulas effects operators : List ℕ) where
       }
 
   module _ {notes : List ℕ} {s : Store} {scratch records : List ℕ} {p : Progress} (t : Takes frame formulas effects notes operators s scratch records p) where
-    -- without room it stays so
-    pub took_full : {r : Progress} → p.full ≡ true → r ≡ stopped (p.operators + 1) → Took frame formulas effects operators s scratch records p r
-    took_full q e =
-        rw e
-        (record {
-          next = refl;
-          answer = λ _. refl;
-          taken =
-              record {
-                done = λ g. absurd (true≢false g);
-                kept = λ g. absurd (true≢false g);
-                over = λ _ w few.
-                    t.taken.over q (within_before (more_grows frame formulas effects operators start p.operators) w)
-                    (omega (arith, many_more frame formulas effects operators p.operators, few));
-              };
-        })
-
     module _ (q : p.full ≡ false) {f e : ℕ} (its-formula : f ≡ (operator_at operators p.operators).precondition)
         (its-effect : e ≡ (operator_at operators p.operators).effect) where
       stood : Stood (operators_built frame formulas effects operators p.operators start).st frame formulas effects (size_at p) s scratch
@@ -196,10 +177,9 @@ module _ (frame : Frame) (formulas effects operators : List ℕ) where
 
       module _ {after : Store} {s2 l : List ℕ} (z : Tally) (y : OperatorWalked frame formulas effects f e (size_at p) s after s2 p.records records l z) where
         -- no room for its rows or twins
-        pub took-over : {r : Progress} → z.full ≡ true → r ≡ stopped (p.operators + 1) → Took frame formulas effects operators after s2 l p r
-        took-over g e =
-            rw e
-            (record {
+        pub took-over : z.full ≡ true → Took frame formulas effects operators after s2 l p (stopped (p.operators + 1))
+        took-over g =
+            record {
               next = refl;
               answer = λ _. refl;
               taken =
@@ -208,17 +188,16 @@ module _ (frame : Frame) (formulas effects operators : List ℕ) where
                     kept = λ f. absurd (true≢false f);
                     over = λ _ v _. y.walked.reaches.over g (rw one_more at v);
                   };
-            })
+            }
 
         module _ (g : z.full ≡ false) where
           recorded : Recorded (changes_here frame formulas effects operators p.operators) p.records records l z.records
           recorded = rw here-changes (y.walked.recorded g)
 
           -- none for its changes
-          pub took-many : {r : Progress} → 2048 < z.records → r ≡ stopped (p.operators + 1) → Took frame formulas effects operators after s2 l p r
-          took-many h e =
-              rw e
-              (record {
+          pub took-many : 2048 < z.records → Took frame formulas effects operators after s2 l p (stopped (p.operators + 1))
+          took-many h =
+              record {
                 next = refl;
                 answer = λ _. refl;
                 taken =
@@ -235,18 +214,18 @@ module _ (frame : Frame) (formulas effects operators : List ℕ) where
                             many_more frame formulas effects operators p.operators,
                           );
                     };
-              })
+              }
 
           pub took :
-              {m : List ℕ} {r : Progress}
+              {m : List ℕ}
               → z.records ≤ 2048
               → length s2 ≡ length scratch
               → length l ≡ length records
               → m ≡ three l p.operators z.row z.records 0
-              → r ≡ record { rows = z.rows; twins = z.twins; operators = p.operators + 1; records = z.records; full = false }
-              → Took frame formulas effects operators after s2 m p r
-          took h long wide stored e =
-              rw (stored, e)
+              → Took frame formulas effects operators after s2 m p
+              (record { rows = z.rows; twins = z.twins; operators = p.operators + 1; records = z.records; full = false })
+          took h long wide stored =
+              rw stored
               (record {
                 next = refl;
                 answer = λ f. absurd (true≢false (sym f));
@@ -270,31 +249,16 @@ module _ (frame : Frame) (formulas effects operators : List ℕ) where
     before : p.full ≡ false → (operators_built frame formulas effects operators count start).st ≡ held (size_at p) s
     before q = ap (λ (n : ℕ). (operators_built frame formulas effects operators n start).st) (sym all) ∙ (t.done q).state
 
-    pub goal_asks : goal < frame.formulas → TakesGoal frame formulas goal s scratch p
-    goal_asks h =
-        record {
-          asks = λ q.
-              let k = (t.done q).stands in
-              record { source = k.source; ready = k.ready; memo = k.memo; formula = h };
-        }
-
-    operators_full :
-        p.full ≡ true
-        → Within frame (whole_built frame formulas effects operators count goal start).st
-        → many frame formulas effects operators count ≤ 2048
-        → ⊥
-    unfolding whole_built bind
-    operators_full q w few =
-        t.over q
-        (rw all
-        (within_before ((steady_image_at frame formulas plain goal).grow (operators_built frame formulas effects operators count start).st) w))
-        (rw all few)
+    pub goal_asks : p.full ≡ false → goal < frame.formulas → Asks frame formulas (size_at p) s scratch goal
+    goal_asks q h =
+        let k = (t.done q).stands in
+        record { source = k.source; ready = k.ready; memo = k.memo; formula = h }
 
     all_kept : p.full ≡ false → AllKept frame formulas effects operators records count (many frame formulas effects operators count)
     all_kept q = rw ((t.kept q).count, all) at (t.kept q)
 
     module _ {after : Store} {s2 : List ℕ} {z : Step} (long : length s2 ≡ length scratch) where
-      goal_built :
+      pub goal_built :
           p.full ≡ false
           → Images (image_at frame formulas plain goal) frame formulas (size_at p) s after scratch s2 z
           → FromStart frame formulas effects operators count goal after s2 records z
@@ -318,13 +282,23 @@ module _ (frame : Frame) (formulas effects operators : List ℕ) where
             over = λ g w _. y.builds.over g (rw (ap (λ (x : Got ℕ). x.st) same) at w);
           }
 
-      pub goal-taken : TookGoal frame formulas goal s after scratch s2 p z → FromStart frame formulas effects operators count goal after s2 records z
-      goal-taken y = go p.full refl
-        where
-          go : (b : Bool) → p.full ≡ b → FromStart frame formulas effects operators count goal after s2 records z
-          go false q = goal_built q (y.done q)
-          go true q =
-              record {
-                done = λ g. absurd (true≢false (sym (ap (λ (x : Step). x.full) (y.over q)) ∙ g));
-                over = λ _. operators_full q;
-              }
+  -- Without room for some operators there is none for more, nor for the goal.
+  module _ {s : Store} {scratch records : List ℕ} {p : Progress} (count : ℕ) (some : p.operators ≤ count)
+      (t : Taken frame formulas effects operators s scratch records p) (q : p.full ≡ true) where
+    pub operators_over :
+        Within frame (operators_built frame formulas effects operators count start).st → many frame formulas effects operators count ≤ 2048 → ⊥
+    operators_over w few =
+        t.over q (within_before (more_grows frame formulas effects operators start p.operators count some) w)
+        (omega (arith, many_on frame formulas effects operators p.operators count some, few))
+
+    pub goal_over :
+        {after : Store} {s2 : List ℕ} {z : Step} (goal : ℕ) → z.full ≡ true → FromStart frame formulas effects operators count goal after s2 records z
+    unfolding whole_built bind
+    goal_over goal g =
+        record {
+          done = λ f. absurd (true≢false (sym g ∙ f));
+          over = λ _ w few.
+              operators_over
+              (within_before ((steady_image_at frame formulas plain goal).grow (operators_built frame formulas effects operators count start).st) w)
+              few;
+        }

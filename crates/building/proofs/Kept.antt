@@ -48,6 +48,17 @@ module _ (frame : Frame) (formulas effects operators : List ℕ) where
       ≡ many frame formulas effects operators n + length (acting (changes_here frame formulas effects operators n))
   many_more n = rw (add-one n) (many_suc n)
 
+  pub many_on : (n m : ℕ) → n ≤ m → many frame formulas effects operators n ≤ many frame formulas effects operators m
+  many_on n zero h = let e : n ≡ 0 = omega arith in rw e (omega arith)
+  many_on n (suc m) h = go (dec_le n m) (λ k. many_on n m k)
+    where
+      go :
+          Dec (n ≤ m)
+          → (n ≤ m → many frame formulas effects operators n ≤ many frame formulas effects operators m)
+          → many frame formulas effects operators n ≤ many frame formulas effects operators (suc m)
+      go (yes k) before = omega (arith, before k, many_suc m)
+      go (no k) before = let e : n ≡ suc m = omega arith in rw e (omega arith)
+
   pub many_fewer : (o n : ℕ) → o ≤ n → many frame formulas effects operators o ≤ many frame formulas effects operators n
   many_fewer o zero h =
       let e : o ≡ 0 = omega arith in

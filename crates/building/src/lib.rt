@@ -1,18 +1,13 @@
-// Building the formulas of a compiled task, in parts: begin, then one operator after another, then the goal.
+// Building the formulas of a compiled task, in parts: begin, then one operator after another; the goal's image is the last.
 #![tactic(auto)]
 
-mod goal;
 mod taking;
 
-pub use goal::take_goal;
 pub use taking::{begin, take_operator};
 
-// What stands between two parts: so many rows and twins, so many operators taken and changes recorded; or that there was no room.
-#[derive(Clone, Copy)]
+// What stands between two parts beside the builder: so many operators taken and changes recorded.
+#[derive(Clone, Copy, Debug, PartialEq, Eq)]
 pub struct Progress {
-    pub rows: usize,
-    pub twins: usize,
     pub operators: usize,
     pub records: usize,
-    pub full: bool,
 }

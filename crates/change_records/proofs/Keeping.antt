@@ -5,8 +5,6 @@ use mathlib.Core.Path.{◌≡◌, refl, sym, ap, ap₂, ◌∙◌}
 use mathlib.Core.Bool.{Bool, true, false, cond}
 use mathlib.Core.List.{List, [], ◌∷◌, ◌++◌, append_assoc, append-nil}
 use lib.ListN.{length, length-append}
-use lib.Dec.{eqb}
-use borrow.Author.Tests.{eq-eqb, ne_eqb}
 use Rattle.task.specs.Bounded.{upto}
 use Rattle.task.specs.Table.{Row, row_at}
 use Rattle.normal_form.specs.Operators.{Changes}
@@ -14,15 +12,6 @@ use Rattle.task.specs.Inner.Stored.{three}
 use Rattle.formula_builder.specs.Inner.Index.{three as row_stored}
 use Rattle.formula_builder.proofs.Stored.{upto_same, three_other, three_before, three_at}
 use Rattle.change_records.specs.Inner.Recorded.{idle, acting, change_at, changes_from, Recorded}
-
--- how the code tells
-pub is_added : (c : Changes) → (c.adds ≡ 0 → ⊥) → false ≡ idle c
-unfolding idle
-is_added c n = rw (ne_eqb c.adds 0 n)
-
-pub by_deletes : (c : Changes) → c.adds ≡ 0 → eqb c.deletes 0 ≡ idle c
-unfolding idle
-by_deletes c e = rw (eq-eqb c.adds 0 e)
 
 pub acting_append : (cs ds : List Changes) → acting (cs ++ ds) ≡ acting cs ++ acting ds
 unfolding acting

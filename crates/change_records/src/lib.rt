@@ -4,4 +4,11 @@
 
 mod keep;
 
-pub use keep::keep_change;
+pub use keep::{keep_change, kept_change};
+use task::MOST_OPERATORS;
+
+// The record of the first change: it stands behind those of the operators.
+const FIRST_CHANGE: usize = MOST_OPERATORS as usize;
+
+// The changes that there is room for.
+const MOST_CHANGES: usize = 2048;

@@ -8,27 +8,29 @@ use mathlib.Core.Bool.{Bool, true, false, cond}
 use mathlib.Core.List.{List, [], ◌++◌}
 use lib.Dec.{leb}
 use lib.ListN.{length, get_or, take, replicate, length-append, length-replicate, get_or-replicate, get_or-append}
-use lib.Seq.{ext_get_or, get_or-append-add, length-take-le}
+use lib.Seq.{ext_get_or, get_or-append-add}
 use borrow.Author.Tests.{le-leb, lt-leb}
-use Rattle.task.specs.declared.Head.{Head}
+use Rattle.std.specs.Prelude.{Option, Result, Ok, Err}
+use Rattle.std.specs.Result.{IsErrAnd}
+use Rattle.task.specs.declared.refusal.Refusal.{Refusal}
+use Rattle.task.specs.Refused.{number_of}
 use Rattle.task.specs.Table.{Lent, Task, task_of}
-use Rattle.task.specs.Run.{goal_holds}
 use Rattle.task.specs.Words.{padded}
 use Rattle.stepper.specs.Stepped.{cleared}
-use Rattle.state_queue.specs.Inner.Queue.{winner, Roomy, queued as waits_there}
-use Rattle.cheapest_plan.specs.declared.CheapestOutcome.{CheapestOutcome}
+use Rattle.state_queue.specs.Inner.Queue.{Roomy}
+use Rattle.cheapest_plan.specs.declared.CheapestPlan.{CheapestPlan}
 use Rattle.cheapest_plan.specs.Cheapest.{Pick, no_plan, plan_of, cheapest}
-use Rattle.cheapest_plan.specs.Planned.{search_refusal, plan_refused, plan_written, plan_told, planned_by, planned, PlanGives}
-use Rattle.cheapest_plan.specs.Inner.States.{Bits, code, state_of}
+use Rattle.cheapest_plan.specs.Planned.{search_refusal, CheapestOutcome, plan_answered, plan_refused, plan_written, plan_told, Planned, planned_by, planned, PlanGives}
+use Rattle.cheapest_plan.specs.Inner.States.{Bits, code}
 use Rattle.cheapest_plan.specs.Inner.Tables.{Ground}
-use Rattle.cheapest_plan.specs.Inner.Visits.{Known, GoalReady, Searchable, SearchEnd, no_end, first_end, EndReady, EndFound, Writable, Writes}
-use Rattle.cheapest_plan.specs.Inner.Plans.{PlanReady, PlanEnd, no_plan_there, plan_there, PlanTold, TellReady}
+use Rattle.cheapest_plan.specs.Inner.Visits.{Searchable, SearchEnd, FirstEnd, EndReady, EndFound, Writable, Writes}
+use Rattle.cheapest_plan.specs.Inner.Plans.{PlanReady, BestEnd, PlanTold, TellReady, PlanFound}
 use Rattle.cheapest_plan.proofs.States.{code_below, state_of_code}
 use Rattle.cheapest_plan.proofs.Visiting.{QueuedAt, queued_at, IsQueued, waiting_at, least-key}
 use Rattle.cheapest_plan.proofs.Refusing.{few_states, search_ready}
 
 -- a search begins
-module _ {h : Head} {initial f e o scratch words : List ℕ} (v : PlanReady h initial f e o scratch words) {n : ℕ} (states : n ≡ 2 ^ h.variables) where
+module _ {l : Lent} {scratch words : List ℕ} (v : PlanReady l scratch words) {n : ℕ} (states : n ≡ 2 ^ l.head.variables) where
   unfoldable pub ground : Ground v.t n
   ground =
       record {
@@ -41,34 +43,20 @@ module _ {h : Head} {initial f e o scratch words : List ℕ} (v : PlanReady h in
   pub search_roomy : Roomy n words
   search_roomy =
       record {
-        some = omega (arith, states, one-le-pow h.variables 2 (omega arith));
+        some = omega (arith, states, one-le-pow l.head.variables 2 (omega arith));
         limit = omega (arith, states, few_states v.few);
         room = omega (arith, states, v.words_room);
       }
 
-  pub search_goal : {state : List ℕ} → length state ≡ h.variables → GoalReady h f state scratch
-  search_goal size =
-      record {
-        few = v.few;
-        size = size;
-        there = v.tables.ready.formulas_there;
-        rule = v.tables.ready.formula;
-        goal = v.tables.ready.goal;
-        room = v.room;
-      }
-
   -- the initial state and its code
-  module _ {first : List ℕ} (is : first ≡ take h.variables initial) where
+  module _ {first : List ℕ} (is : first ≡ take l.head.variables l.initial) where
     pub start_bits : Bits (length first) first
     start_bits = record { size = refl; bits = rw (is ∙ sym v.starts) v.passes.initial_bits }
 
-    pub start_few : length first ≤ 10
-    start_few = omega (arith, ap length (is ∙ sym v.starts), v.tables.variables, v.few)
-
-    pub start_there : length first ≡ h.variables
+    pub start_there : length first ≡ l.head.variables
     start_there = ap length (is ∙ sym v.starts) ∙ v.tables.variables
 
-    unfoldable pub searchable : {start : ℕ} → start ≡ code first → Searchable h f e o n start
+    unfoldable pub searchable : {start : ℕ} → start ≡ code first → Searchable l n start
     searchable {start} e =
         record {
           t = v.t;
@@ -78,39 +66,19 @@ module _ {h : Head} {initial f e o scratch words : List ℕ} (v : PlanReady h in
           initial = v.starts ∙ sym is ∙ sym (state_of_code (length first) first start_bits) ∙ rw (start_there, e) refl;
         }
 
-    pub searched : {start r : ℕ} {after : List ℕ} (is' : start ≡ code first) → SearchEnd (searchable is').t n after r → SearchEnd v.t n after r
+    pub searched : {start : ℕ} (r : Option ℕ) (after : List ℕ) (is' : start ≡ code first) → SearchEnd (searchable is').t n after r → SearchEnd v.t n after r
     unfolding searchable
-    searched is' end = end
+    searched r after is' end = end
 
-  -- the search found no end
-  pub none_found : {after : List ℕ} {r : ℕ} → SearchEnd v.t n after r → r ≡ n → PlanEnd v.t n after n
-  none_found (no_end q none) same = no_plan_there refl none
-  none_found (first_end below known first w goal) same = absurd (omega arith)
-
--- or one
-pub record FirstEnd (t : Task) (n : ℕ) (words : List ℕ) (r : ℕ) : Type 0 where
-  pub below : r < n
-  pub known : Known t n words
-  pub first : r ≡ winner words n 1
-  pub waiting : waits_there (get_or words r 0) ≡ true
-  pub goal : goal_holds t (state_of (length t.initial) r) ≡ true
-
-some_end : {t : Task} {n : ℕ} {words : List ℕ} {r : ℕ} → SearchEnd t n words r → (r ≡ n → ⊥) → FirstEnd t n words r
-some_end (no_end q none) other = absurd (other q)
-some_end (first_end below known first w goal) other =
-    record { below = below; known = known; first = first; waiting = w; goal = goal }
-
+-- the search found an end
 module _
-    {h : Head} {initial f e o scratch words : List ℕ} (v : PlanReady h initial f e o scratch words) {n : ℕ} (states : n ≡ 2 ^ h.variables)
-    {after : List ℕ} (roomy : Roomy n after) {r : ℕ} (end : SearchEnd v.t n after r) (other : r ≡ n → ⊥)
+    {l : Lent} {scratch words : List ℕ} (v : PlanReady l scratch words) {n : ℕ} (states : n ≡ 2 ^ l.head.variables)
+    {after : List ℕ} (roomy : Roomy n after) {r : ℕ} (end_here : FirstEnd v.t n after r)
   where
-    pub end_here : FirstEnd v.t n after r
-    end_here = some_end end other
-
     pub end_queued : IsQueued end_here.known.holds r
     end_queued = waiting_at end_here.known.holds r end_here.below end_here.waiting
 
-    unfoldable pub end_ready : EndReady h f n r after
+    unfoldable pub end_ready : EndReady l n r after
     end_ready =
         record {
           t = v.t;
@@ -132,9 +100,9 @@ module _
               end_queued.p end_queued.c end_queued.at;
         }
 
-    pub end_found : {best : ℕ} → best < n → EndFound end_ready.t n best after → PlanEnd v.t n after best
+    pub end_found : {best : ℕ} → best < n → EndFound end_ready.t n best after → BestEnd v.t n after best
     unfolding end_ready
-    end_found below found = plan_there below found
+    end_found below found = record { below = below; found = found }
 
 -- what is told of a plan
 module _ {n end : ℕ} {words plan : List ℕ} (v : TellReady n end words plan) where
@@ -144,14 +112,12 @@ module _ {n end : ℕ} {words plan : List ℕ} (v : TellReady n end words plan) 
   -- it is longer than the buffer
   pub tell_long :
       length plan < get_or words (n + end) 0
-      → {r : CheapestOutcome}
-      → r ≡ record { refusal = 23; steps = 0; cost = 0 }
-      → PlanTold (plan_of v.found.p v.found.c) plan r plan
+      → PlanTold (plan_of v.found.p v.found.c) plan (record { refusal = 23; steps = 0; cost = 0 }) plan
   unfolding plan_told plan_refused
-  tell_long h e =
+  tell_long h =
       let long : length plan < length v.found.p = omega (arith, end_at.steps) in
       record {
-        answer = e ∙ sym (rw (lt-leb (length v.found.p) (length plan) long) refl);
+        answer = sym (rw (lt-leb (length v.found.p) (length plan) long) refl);
         plan = v.clear ∙ sym (rw (lt-leb (length v.found.p) (length plan) long) refl);
       }
 
@@ -216,38 +182,16 @@ module _ {n end : ℕ} {words plan : List ℕ} (v : TellReady n end words plan) 
           }
 
 -- the way from the best end
-pub record FoundEnd (t : Task) (n : ℕ) (words : List ℕ) (r : ℕ) : Type 0 where
-  pub below : r < n
-  pub found : EndFound t n r words
+module _ {t : Task} {n : ℕ} {words : List ℕ} {r : ℕ} (end : BestEnd t n words r) {plan : List ℕ} (clear : plan ≡ cleared plan) where
+  unfoldable pub tell_ready : TellReady n r words plan
+  tell_ready = record { t = t; there = end.below; found = end.found; clear = clear }
 
-found_end : {t : Task} {n : ℕ} {words : List ℕ} {r : ℕ} → PlanEnd t n words r → (r ≡ n → ⊥) → FoundEnd t n words r
-found_end (no_plan_there q none) other = absurd (other q)
-found_end (plan_there below found) other = record { below = below; found = found }
-
-module _ {t : Task} {n : ℕ} {words : List ℕ} {r : ℕ} (end : PlanEnd t n words r) {plan : List ℕ} (clear : plan ≡ cleared plan) where
-  none_there : PlanEnd t n words r → r ≡ n → cheapest t ≡ no_plan
-  none_there (no_plan_there q none) same = none
-  none_there (plan_there below found) same = absurd (omega arith)
-
-  pub told_none : r ≡ n → {answer : CheapestOutcome} → answer ≡ record { refusal = 22; steps = 0; cost = 0 } → PlanTold (cheapest t) plan answer plan
-  unfolding plan_told plan_refused
-  told_none same e =
-      let none = none_there end same in
-      record { answer = e ∙ sym (rw none refl); plan = clear ∙ sym (rw none refl) }
-
-  module _ (other : r ≡ n → ⊥) where
-    pub found_here : FoundEnd t n words r
-    found_here = found_end end other
-
-    unfoldable pub tell_ready : TellReady n r words plan
-    tell_ready = record { t = t; there = found_here.below; found = found_here.found; clear = clear }
-
-    pub told_found :
-        {answer : CheapestOutcome} {after : List ℕ}
-        → PlanTold (plan_of tell_ready.found.p tell_ready.found.c) plan answer after
-        → PlanTold (cheapest t) plan answer after
-    unfolding tell_ready
-    told_found x = rw found_here.found.best x
+  pub told_found :
+      {answer : CheapestOutcome} {after : List ℕ}
+      → PlanTold (plan_of tell_ready.found.p tell_ready.found.c) plan answer after
+      → PlanTold (cheapest t) plan answer after
+  unfolding tell_ready
+  told_found x = rw end.found.best x
 
 -- what is told does not hang on the scratches, nor on what stood in the buffer
 module _ (before plan scratch words : List ℕ) (size : length before ≡ length plan) where
@@ -292,63 +236,102 @@ module _ (before plan scratch words : List ℕ) (size : length before ≡ length
       go true = (refl, refl)
       go false = (refl, refl)
 
--- the ways out of `cheapest`
-module _ (l : Lent) (plan scratch words : List ℕ) (number : ℕ) (asked : number ≡ search_refusal l scratch words) where
-  pub plan_refuses :
-      (number ≡ 0 → ⊥)
-      → (r : CheapestOutcome) (numbers rest tables : List ℕ)
-      → r ≡ record { refusal = number; steps = 0; cost = 0 }
-      → numbers ≡ cleared plan
-      → rest ≡ cleared scratch
-      → tables ≡ cleared words
-      → PlanGives (planned l plan scratch words) r numbers rest tables
+-- a refusal that `?` returns onward
+pub answered_err : (r : Result CheapestPlan Refusal) (e : Refusal) → IsErrAnd r (λ x. x ≡ e) → plan_answered r ≡ record { refusal = number_of e; steps = 0; cost = 0 }
+answered_err (Ok p) e given = absurd given
+answered_err (Err x) e given = rw given refl
+
+-- the ways out of `find_plan`
+module _ (l : Lent) (plan scratch words : List ℕ) where
+  module _ (clear : plan ≡ cleared plan) where
+    pub plan_refuses :
+        {number : ℕ}
+        → number ≡ search_refusal l scratch words
+        → (number ≡ 0 → ⊥)
+        → {r : CheapestOutcome}
+        → r ≡ record { refusal = number; steps = 0; cost = 0 }
+        → PlanFound (planned l plan scratch words) r plan
+    unfolding planned planned_by plan_refused
+    plan_refuses {number} asked d {r} e = rw (← asked) (go number d e)
+      where
+        go : (n : ℕ) → (n ≡ 0 → ⊥) → r ≡ record { refusal = n; steps = 0; cost = 0 } → PlanFound (planned_by n l plan scratch words) r plan
+        go zero d e = absurd (d refl)
+        go (suc n) d e = record { answer = e; plan = clear }
+
+    pub plan_none :
+        search_refusal l scratch words ≡ 0
+        → cheapest (task_of l) ≡ no_plan
+        → {r : CheapestOutcome}
+        → r ≡ record { refusal = 22; steps = 0; cost = 0 }
+        → PlanFound (planned l plan scratch words) r plan
+    unfolding planned planned_by plan_told plan_refused
+    plan_none passed none e = rw (passed, none) (record { answer = e; plan = clear })
+
+  pub plan_gives :
+      search_refusal l scratch words ≡ 0
+      → {r : CheapestOutcome} {numbers : List ℕ}
+      → PlanTold (cheapest (task_of l)) plan r numbers
+      → PlanFound (planned l plan scratch words) r numbers
+  unfolding planned planned_by
+  plan_gives passed told =
+      rw passed
+      (record {
+        answer = told.answer ∙ same_answer plan plan scratch words refl (cheapest (task_of l));
+        plan = told.plan ∙ same_plan plan plan scratch words refl (cheapest (task_of l));
+      })
+
+-- what the call leaves in scratch, and that its outcome does not hang on what stood in the buffer
+module _ (l : Lent) (plan scratch words : List ℕ) where
+  scratch_cleared : ((planned l plan scratch words).scratch ≡ cleared scratch) × ((planned l plan scratch words).words ≡ cleared words)
   unfolding planned planned_by plan_refused
-  plan_refuses d r numbers rest tables e a b c = rw (← asked) (go number d e)
+  scratch_cleared = go (search_refusal l scratch words)
     where
       go :
           (n : ℕ)
-          → (n ≡ 0 → ⊥)
-          → r ≡ record { refusal = n; steps = 0; cost = 0 }
-          → PlanGives (planned_by n l plan scratch words) r numbers rest tables
-      go zero d e = absurd (d refl)
-      go (suc n) d e = record { answer = e; plan = a; scratch = b; words = c }
+          → ((planned_by n l plan scratch words).scratch ≡ cleared scratch) × ((planned_by n l plan scratch words).words ≡ cleared words)
+      go zero = both_cleared plan plan scratch words refl (cheapest (task_of l))
+      go (suc n) = (refl, refl)
 
-  pub plan_gives :
-      number ≡ 0
-      → (r : CheapestOutcome) (before numbers rest tables : List ℕ)
-      → length before ≡ length plan
-      → PlanTold (cheapest (task_of l)) before r numbers
+  planned_same : (before : List ℕ) → length before ≡ length plan → planned l before scratch words ≡ planned l plan scratch words
+  unfolding planned planned_by plan_told plan_refused plan_written
+  planned_same before size = go (search_refusal l scratch words) (cheapest (task_of l))
+    where
+      told : (pick : Pick) → plan_told pick before scratch words ≡ plan_told pick plan scratch words
+      told no_plan = rw size refl
+      told (plan_of p c) = rw size refl
+
+      go : (n : ℕ) (pick : Pick) → planned_by n l before scratch words ≡ planned_by n l plan scratch words
+      go zero pick = told (cheapest (task_of l))
+      go (suc n) pick = rw size refl
+
+  pub cheapest_gives :
+      {before numbers rest tables : List ℕ} {r : CheapestOutcome}
+      → before ≡ cleared plan
+      → PlanFound (planned l before scratch words) r numbers
       → rest ≡ cleared scratch
       → tables ≡ cleared words
       → PlanGives (planned l plan scratch words) r numbers rest tables
-  unfolding planned planned_by
-  plan_gives e r before numbers rest tables size told b c =
-      rw (← asked, e)
-      (record {
-        answer = told.answer ∙ same_answer before plan scratch words size (cheapest (task_of l));
-        plan = told.plan ∙ same_plan before plan scratch words size (cheapest (task_of l));
-        scratch = b ∙ sym (both_cleared before plan scratch words size (cheapest (task_of l))).0;
-        words = c ∙ sym (both_cleared before plan scratch words size (cheapest (task_of l))).1;
-      })
-
--- a front that is cut out from place 0
-pub front_is : (k : ℕ) (l : List ℕ) → take (k - 0) l ≡ take k l
-front_is k l = let e : k - 0 ≡ k = omega arith in rw e refl
-
-pub front_length : (k : ℕ) (l : List ℕ) → k ≤ length l → length (take (k - 0) l) ≡ k
-front_length k l h = ap length (front_is k l) ∙ length-take-le k l h
-
--- a list that was cleared is clear
-pub clear_again : {l : List ℕ} (n : ℕ) → l ≡ replicate n 0 → l ≡ cleared l
-clear_again {l} n e =
-    let size : length l ≡ n = ap length e ∙ length-replicate {A = ℕ} n 0 in
-    e ∙ ap (λ (k : ℕ). replicate k 0) (sym size)
+  cheapest_gives {before} clear found b c =
+      let same = planned_same before (ap length clear ∙ length-replicate {A = ℕ} (length plan) 0) in
+      record {
+        answer = found.answer ∙ ap (λ (w : Planned). w.answer) same;
+        plan = found.plan ∙ ap (λ (w : Planned). w.plan) same;
+        scratch = b ∙ sym scratch_cleared.0;
+        words = c ∙ sym scratch_cleared.1;
+      }
 
 -- a list that was cleared behind a call is clear as before it
 pub clear_behind : {rest : List ℕ} (mid l : List ℕ) → rest ≡ cleared mid → length mid ≡ length l → rest ≡ cleared l
 clear_behind mid l e size = e ∙ ap (λ (k : ℕ). replicate k 0) size
 
 -- the search of the task that is lent
+pub ready_none :
+    (l : Lent) (words16 : (i : ℕ) → get_or l.operators i 0 < 65536) (scratch words : List ℕ) (passed : search_refusal l scratch words ≡ 0)
+    → cheapest (search_ready l words16 scratch words passed).t ≡ no_plan
+    → cheapest (task_of l) ≡ no_plan
+unfolding search_ready
+ready_none l words16 scratch words passed none = none
+
 pub ready_told :
     (l : Lent) (words16 : (i : ℕ) → get_or l.operators i 0 < 65536) (scratch words : List ℕ) (passed : search_refusal l scratch words ≡ 0)
     → {before after : List ℕ} {r : CheapestOutcome}

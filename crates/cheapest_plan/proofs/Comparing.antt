@@ -5,9 +5,10 @@ use native.Mathlib.Omega.{arith}
 use native.Mathlib.Decide.{dec_lt, ℕ_discrete}
 use mathlib.Core.Path.{◌≡◌, refl, ap, ◌∙◌}
 use mathlib.Core.Logic.{◌⊎◌, inl, inr}
+use Rattle.std.specs.Prelude.{Option, Some, None}
 use mathlib.Core.Bool.{Bool, true, false, cond}
 use mathlib.Core.List.{List, [], ◌∷◌, ◌++◌}
-use lib.Dec.{eqb, ltb}
+use lib.Dec.{ltb}
 use lib.ListN.{length, get_or, set, replicate, length-append, length-set, length-replicate, get_or-replicate}
 use lib.Seq.{get_or-set_same, get_or-set_other}
 use borrow.Author.Tests.{lt-ltb, le-ltb}
@@ -213,8 +214,8 @@ module _ {n : ℕ} {words : List ℕ} {x₀ y₀ : ℕ} (h : Comparable n words 
               rw (le-ltb x y le) (not_first (not_last p (down le)))
 
 -- What is noted of comparisons.
-abbrev pub own_note : (k a : ℕ) → List ℕ
-own_note k a = set (replicate k 0) a 1
+abbrev pub own_note : (k a : ℕ) → List (Option Bool)
+own_note k a = set (replicate k None) a (Some false)
 
 pub noted_own :
     {v n : ℕ} {status : List ℕ → Status} {p : List ℕ} {c : ℕ} (k a : ℕ)
@@ -224,29 +225,32 @@ pub noted_own :
     → Noted v n status p (own_note k a)
 noted_own {v} {n} {status} {p} {c} k a room there own =
     record {
-      room = rw (length-set (replicate {A = ℕ} k 0) a 1, length-replicate {A = ℕ} k 0) room;
-      told = λ b q d l some is size. go b q d l some is (ℕ_discrete b a);
+      room = simp (length-set, length-replicate) room;
+      told = λ b q d r l some is size. go b q d r l some is (ℕ_discrete b a);
     }
   where
     go :
-        (b : ℕ) (q : List ℕ) (d : ℕ)
+        (b : ℕ) (q : List ℕ) (d : ℕ) (r : Bool)
         → b < n
-        → (get_or (own_note k a) b 0 ≡ 0 → ⊥)
+        → get_or (own_note k a) b None ≡ Some r
         → status (state_of v b) ≡ taken q d
         → Dec (b ≡ a)
-        → Verdict p q (eqb (get_or (own_note k a) b 0) 2)
-    go b q d l some is (yes e) =
+        → Verdict p q r
+    go b q d r l some is (yes e) =
         let one = (has_one (stands own) (stands (rw e at is))).0 in
-        let kept : get_or (own_note k a) a 0 ≡ 1 =
-        get_or-set_same (replicate {A = ℕ} k 0) a 1 0 (rw (length-replicate {A = ℕ} k 0) (omega arith)) in
-        rw (e, kept, ← one) (not_first by_numbers_irreflexive)
-    go b q d l some is (no e) =
-        absurd (some (get_or-set_other (replicate {A = ℕ} k 0) a b 1 0 e ∙ get_or-replicate {A = ℕ} k b 0 0 (omega arith)))
+        let kept : get_or (own_note k a) a None ≡ Some false =
+        get_or-set_same (replicate {A = Option Bool} k None) a (Some false) None (simp length-replicate (omega arith)) in
+        let told : r ≡ false = let found = rw e at some in cc in
+        rw (told, ← one) (not_first by_numbers_irreflexive)
+    go b q d r l some is (no e) =
+        let none : get_or (own_note k a) b None ≡ None =
+        get_or-set_other (replicate {A = Option Bool} k None) a b (Some false) None e ∙ get_or-replicate {A = Option Bool} k b None None (omega arith) in
+        absurd cc
 
-module _ {n : ℕ} {words : List ℕ} {a b : ℕ} {notes : List ℕ} (h : Pairs n words a b notes) where
+module _ {n : ℕ} {words : List ℕ} {a b : ℕ} {notes : List (Option Bool)} (h : Pairs n words a b notes) where
   -- it was noted before
-  pub noted_before : (get_or notes b 0 ≡ 0 → ⊥) → Verdict h.p h.q (eqb (get_or notes b 0) 2)
-  noted_before some = h.noted.told b h.q h.d h.b_there some h.b_is h.alike
+  pub noted_before : {r : Bool} → get_or notes b None ≡ Some r → Verdict h.p h.q r
+  noted_before {r} some = h.noted.told b h.q h.d r h.b_there some h.b_is h.alike
 
   unfoldable pub pair_comparable : Comparable n words (get_or words (2 * n + a) 0) (get_or words (2 * n + b) 0)
   pair_comparable =
@@ -267,25 +271,27 @@ module _ {n : ℕ} {words : List ℕ} {a b : ℕ} {notes : List ℕ} (h : Pairs 
   pair_verdict c = c.told pair_comparable
 
   -- it is noted now
-  pub noted_now : (note : ℕ) → Verdict h.p h.q (eqb note 2) → Noted h.v n h.status h.p (set notes b note)
-  noted_now note found =
+  pub noted_now : (r : Bool) → Verdict h.p h.q r → Noted h.v n h.status h.p (set notes b (Some r))
+  noted_now r found =
       record {
-        room = rw (length-set notes b note) h.noted.room;
-        told = λ x q d l some is size. go x q d l some is size (ℕ_discrete x b);
+        room = rw (length-set notes b (Some r)) h.noted.room;
+        told = λ x q d t l some is size. go x q d t l some is size (ℕ_discrete x b);
       }
     where
       go :
-          (x : ℕ) (q : List ℕ) (d : ℕ)
+          (x : ℕ) (q : List ℕ) (d : ℕ) (t : Bool)
           → x < n
-          → (get_or (set notes b note) x 0 ≡ 0 → ⊥)
+          → get_or (set notes b (Some r)) x None ≡ Some t
           → h.status (state_of h.v x) ≡ taken q d
           → length h.p ≡ length q
           → Dec (x ≡ b)
-          → Verdict h.p q (eqb (get_or (set notes b note) x 0) 2)
-      go x q d l some is size (yes e) =
+          → Verdict h.p q t
+      go x q d t l some is size (yes e) =
           let one = (has_one (stands h.b_is) (stands (rw e at is))).0 in
-          let kept : get_or (set notes b note) b 0 ≡ note = get_or-set_same notes b note 0 (omega (arith, h.b_there, h.noted.room)) in
-          rw (e, kept, ← one) found
-      go x q d l some is size (no e) =
-          let kept : get_or (set notes b note) x 0 ≡ get_or notes x 0 = get_or-set_other notes b x note 0 e in
-          rw kept (h.noted.told x q d l (rw kept at some) is size)
+          let kept : get_or (set notes b (Some r)) b None ≡ Some r =
+          get_or-set_same notes b (Some r) None (omega (arith, h.b_there, h.noted.room)) in
+          let told : t ≡ r = let found = rw e at some in cc in
+          rw (told, ← one) found
+      go x q d t l some is size (no e) =
+          let kept : get_or (set notes b (Some r)) x None ≡ get_or notes x None = get_or-set_other notes b x (Some r) None e in
+          h.noted.told x q d t l (rw kept at some) is size

@@ -7,9 +7,8 @@ use mathlib.Core.Logic.{◌⊎◌, inl, inr}
 use mathlib.Core.Bool.{Bool, true, false, false≢true}
 use mathlib.Core.List.{List}
 use lib.ListN.{length, get_or}
-use Rattle.task.specs.declared.Head.{Head}
 use Rattle.task.specs.Bounded.{upto}
-use Rattle.task.specs.Table.{row_at}
+use Rattle.task.specs.Table.{Lent, row_at}
 use Rattle.task.specs.Semantics.{holds}
 use Rattle.task.specs.Tree.{formula_of}
 use Rattle.task.specs.Run.{goal_holds}
@@ -25,7 +24,7 @@ use Rattle.cheapest_plan.proofs.Holding.{Stands, is_unreached, is_queued, is_tak
 use Rattle.cheapest_plan.proofs.Relaxing.{alone}
 use Rattle.cheapest_plan.proofs.Visiting.{QueuedAt, queued_at}
 
-module _ {h : Head} {f : List ℕ} {n end : ℕ} {words : List ℕ} (v : EndReady h f n end words) where
+module _ {given : Lent} {n end : ℕ} {words : List ℕ} (v : EndReady given n end words) where
   end_at : QueuedAt (length v.t.initial) n v.status words end v.p v.c
   end_at = queued_at v.holds end v.there v.p v.c v.is
 
@@ -111,7 +110,7 @@ module _ {h : Head} {f : List ℕ} {n end : ℕ} {words : List ℕ} (v : EndRead
           go (later g) = absurd (x g)
 
       goal_same :
-          holds (state_of h.variables s) (formula_of (upto h.formulas (row_at f)) h.goal) ≡ goal_holds v.t (state_of (length v.t.initial) s)
+          holds (state_of given.head.variables s) (formula_of (upto given.head.formulas (row_at given.formulas)) given.head.goal) ≡ goal_holds v.t (state_of (length v.t.initial) s)
       unfolding goal_holds
       goal_same = rw (v.variables, v.formulas, v.goal) refl
 
@@ -121,7 +120,7 @@ module _ {h : Head} {f : List ℕ} {n end : ℕ} {words : List ℕ} (v : EndRead
           → Verdict ends_comparable.first ends_comparable.second b
           → b ≡ true
           → {scratch : List ℕ} {r : Bool}
-          → GoalTold h f s scratch r
+          → GoalTold given s scratch r
           → Rivals v s r
       unfolding ends_comparable
       goal-decides (not_first x) e told = absurd (false≢true e)
@@ -131,7 +130,7 @@ module _ {h : Head} {f : List ℕ} {n end : ℕ} {words : List ℕ} (v : EndRead
           gives_way (λ r d is goal. absurd (false≢true (told.told ∙ goal_same ∙ goal)))
 
 -- The loop: the best end among the states below i.
-pub record Best {h : Head} {f : List ℕ} {n first : ℕ} {words : List ℕ} (v : EndReady h f n first words) (i end : ℕ) : Type 0 where
+pub record Best {given : Lent} {n first : ℕ} {words : List ℕ} (v : EndReady given n first words) (i end : ℕ) : Type 0 where
   pub there : end < n
   pub p : List ℕ
   pub c : ℕ
@@ -146,7 +145,7 @@ pub record Best {h : Head} {f : List ℕ} {n first : ℕ} {words : List ℕ} (v 
       → goal_holds v.t (state_of (length v.t.initial) s) ≡ true
       → NoLater c p e r
 
-module _ {h : Head} {f : List ℕ} {n first : ℕ} {words : List ℕ} (v : EndReady h f n first words) where
+module _ {given : Lent} {n first : ℕ} {words : List ℕ} (v : EndReady given n first words) where
   pub best_begin : Best v 0 first
   best_begin =
       record {
@@ -160,7 +159,7 @@ module _ {h : Head} {f : List ℕ} {n first : ℕ} {words : List ℕ} (v : EndRe
       }
 
   module _ {i end : ℕ} (b : Best v i end) where
-    unfoldable pub candidate : EndReady h f n end words
+    unfoldable pub candidate : EndReady given n end words
     candidate =
         record {
           t = v.t;

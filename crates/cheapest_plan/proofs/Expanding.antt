@@ -2,6 +2,7 @@
 use Prim.Native.Nat.{ℕ, ◌+◌, ◌*◌, ◌≤◌, ◌<◌}
 use native.Mathlib.Omega.{arith}
 use mathlib.Core.Path.{◌≡◌, refl, sym, ap, ◌∙◌}
+use Rattle.std.specs.Prelude.{Option}
 use mathlib.Core.Bool.{Bool, true, false}
 use mathlib.Core.List.{List}
 use lib.ListN.{length, get_or}
@@ -36,18 +37,12 @@ zeros_on x y = record { stay = λ s l z. y.stay s l (x.stay s l z) }
 module _
     {n : ℕ} {operators : List ℕ} {count state cost steps : ℕ} {values masks : List ℕ}
     (h : Stage n operators count state cost steps values masks)
-    {words notes : List ℕ} {k : ℕ} (at : NotedTo h words notes k) (below : k < count)
+    {words : List ℕ} {notes : List (Option Bool)} {k : ℕ} (at : NotedTo h words notes k) (below : k < count)
   where
     place : Bits (length h.t.initial) (state_of (length h.t.initial) state)
     place = state_bits (length h.t.initial) state
 
-    pub effect_inside : {effect : ℕ} → effect ≡ (operator_at operators k).effect → effect < length masks
-    effect_inside e = rw e (h.effect k below)
-
     module _ {asked : ℕ} (precondition : asked ≡ (operator_at operators k).precondition) where
-      pub asked-inside : asked < length values
-      asked-inside = rw precondition (h.precondition k below)
-
       -- it is not applicable
       pub not-stepped : get_or values asked 0 ≡ 0 → NotedTo h words notes (k + 1)
       not-stepped z =
@@ -112,7 +107,7 @@ module _
               }
 
           pub stepped-on :
-              {to : ℕ} {after r : List ℕ} (there : to ≡ next_code state (get_or masks effect 0))
+              {to : ℕ} {after : List ℕ} {r : List (Option Bool)} (there : to ≡ next_code state (get_or masks effect 0))
               → Relaxes n to (cost + price) (steps + 1) (256 * (state + 1) + k) notes words after r
               → NotedTo h after r (k + 1)
           unfolding relaxable

@@ -10,6 +10,7 @@ use lib.Dec.{leb}
 use lib.ListN.{length, get_or, get_or-eq_default}
 use lib.Pow.{shl_exact, pow_mono}
 use borrow.Author.Tests.{le-leb, lt-leb, leb-true}
+use Rattle.task.specs.declared.Head.{Head}
 use Rattle.task.specs.Table.{Lent, operator_width, task_of, operator_at}
 use Rattle.task.specs.Check.{refusal, unless}
 use Rattle.task.specs.Rules.{no_operator}
@@ -37,6 +38,20 @@ unless_rest : (b : Bool) (n rest : ℕ) → (n ≡ 0 → ⊥) → unless b n res
 unless_rest true n rest d e = e
 unless_rest false n rest d e = absurd (d e)
 
+-- the room of both scratches
+module _ (h : Head) (scratch words : List ℕ) where
+  pub room_tested :
+      h.formulas + h.effects ≤ length scratch
+      → {states : ℕ}
+      → states ≡ 2 ^ h.variables
+      → leb (4 * states) (length words) ≡ search_scratch_kept h scratch words
+  unfolding search_scratch_kept step_scratch_kept
+  room_tested bytes e = rw (le-leb (h.formulas + h.effects) (length scratch) bytes, e) refl
+
+  pub room_untested : length scratch < h.formulas + h.effects → leb (h.formulas + h.effects) (length scratch) ≡ search_scratch_kept h scratch words
+  unfolding search_scratch_kept step_scratch_kept
+  room_untested short = rw (lt-leb (h.formulas + h.effects) (length scratch) short) refl
+
 -- the ways out of `refused_early`
 module _ (l : Lent) (scratch words : List ℕ) (n : ℕ) (checked : n ≡ refusal l) where
   pub refused_tables : (n ≡ 0 → ⊥) → n ≡ search_refusal l scratch words
@@ -53,31 +68,15 @@ module _ (l : Lent) (scratch words : List ℕ) (n : ℕ) (checked : n ≡ refusa
     refused_variables h = rw (none, lt-leb l.head.variables 10 h)
 
     module _ (few : l.head.variables ≤ 10) where
-      pub refused-bytes : length scratch < l.head.formulas + l.head.effects → 14 ≡ search_refusal l scratch words
-      unfolding search_refusal few_variables search_scratch_kept step_scratch_kept
-      refused-bytes h =
-          rw (none, le-leb l.head.variables 10 few, lt-leb (l.head.formulas + l.head.effects) (length scratch) h)
-
-      module _ (bytes : l.head.formulas + l.head.effects ≤ length scratch) {states : ℕ} (is : states ≡ 2 ^ l.head.variables) where
-        pub refused-words : length words < 4 * states → 14 ≡ search_refusal l scratch words
-        unfolding search_refusal few_variables search_scratch_kept step_scratch_kept
-        refused-words h =
-            rw (
-              none,
-              le-leb l.head.variables 10 few,
-              le-leb (l.head.formulas + l.head.effects) (length scratch) bytes,
-              lt-leb (4 * 2 ^ l.head.variables) (length words) (rw is at h),
-            )
-
-        pub not_refused : 4 * states ≤ length words → 0 ≡ search_refusal l scratch words
-        unfolding search_refusal few_variables search_scratch_kept step_scratch_kept
-        not_refused h =
-            rw (
-              none,
-              le-leb l.head.variables 10 few,
-              le-leb (l.head.formulas + l.head.effects) (length scratch) bytes,
-              le-leb (4 * 2 ^ l.head.variables) (length words) (rw is at h),
-            )
+      -- the last test
+      pub roomy_last :
+          (b : Bool)
+          → b ≡ search_scratch_kept l.head scratch words
+          → {r : ℕ}
+          → r ≡ unless b 14 0
+          → r ≡ search_refusal l scratch words
+      unfolding search_refusal few_variables
+      roomy_last b is told = told ∙ rw (none, le-leb l.head.variables 10 few, is) refl
 
 -- once none is given, a search may begin
 module _ (l : Lent) (words16 : (i : ℕ) → get_or l.operators i 0 < 65536) where
@@ -131,7 +130,7 @@ module _ (l : Lent) (words16 : (i : ℕ) → get_or l.operators i 0 < 65536) whe
         leb-true (4 * 2 ^ l.head.variables) (length words)
         (and_right (step_scratch_kept l.head scratch) (leb (4 * 2 ^ l.head.variables) (length words)) roomy)
 
-    unfoldable pub tables_in : TaskIn (task_of l) l.head l.formulas l.effects l.operators
+    unfoldable pub tables_in : TaskIn (task_of l) l
     unfolding task_of
     tables_in =
         let rules = kept_rules l tables_passed in
@@ -145,7 +144,7 @@ module _ (l : Lent) (words16 : (i : ℕ) → get_or l.operators i 0 < 65536) whe
           few = omega (arith, rules.1.limits.operators, length_operators l);
         }
 
-    unfoldable pub search_ready : PlanReady l.head l.initial l.formulas l.effects l.operators scratch words
+    unfoldable pub search_ready : PlanReady l scratch words
     unfolding task_of
     search_ready =
         let rules = kept_rules l tables_passed in

@@ -4,6 +4,7 @@ use native.Mathlib.Nat.{one-le-pow}
 use native.Mathlib.Omega.{arith}
 use native.Mathlib.Decide.{dec_lt, ℕ_discrete}
 use mathlib.Core.Path.{◌≡◌, refl, sym, ap, ◌∙◌}
+use Rattle.std.specs.Prelude.{Option}
 use mathlib.Core.Bool.{Bool, true, false, not}
 use mathlib.Core.List.{List, [], ◌∷◌, ◌++◌}
 use lib.Dec.{ltb}
@@ -104,7 +105,7 @@ key_there words n s e q =
     rw (sym (cost_else (get_or words s 0) (λ z. omega arith)))
     (let c : get_or words s 0 - 1 ≡ e = omega arith in rw c refl)
 
-module _ {n : ℕ} {words : List ℕ} {to cost steps step : ℕ} {notes : List ℕ} (h : Relaxable n words to cost steps step notes) where
+module _ {n : ℕ} {words : List ℕ} {to cost steps step : ℕ} {notes : List (Option Bool)} (h : Relaxable n words to cost steps step notes) where
   place : Bits (length h.t.initial) (left_state h)
   place = state_bits (length h.t.initial) h.from
 
@@ -315,7 +316,7 @@ module _ {n : ℕ} {words : List ℕ} {to cost steps step : ℕ} {notes : List �
             by-numbers false
             (rw (old-parent.list, own-list e) (not_first (not_last h.p (omega (arith, own-lower e)))))
 
-        module _ {r : Bool} {after : List ℕ} (found : Notes n words a b notes after r) where
+        module _ {r : Bool} {after : List (Option Bool)} (found : Notes n words a b notes after r) where
           decided : Verdict h.p old-parent.q r
           unfolding pairs
           decided = found.told pairs
@@ -357,7 +358,7 @@ module _ {n : ℕ} {words : List ℕ} {to cost steps step : ℕ} {notes : List �
 
   -- what is known then: nothing has changed
   pub relaxed_old :
-      {r : List ℕ}
+      {r : List (Option Bool)}
       → Judged h true
       → Noted (length h.t.initial) n h.stepping.status h.p r
       → Noting h.t n words r (left_state h) (h.k + 1) h.p h.c
@@ -397,7 +398,7 @@ module _ {n : ℕ} {words : List ℕ} {to cost steps step : ℕ} {notes : List �
         go s l z (yes q) (is_taken r e is w) = absurd (not_taken r e is)
 
     pub relaxed_new :
-        {r : List ℕ}
+        {r : List (Option Bool)}
         → Judged h false
         → Noted (length h.t.initial) n h.stepping.status h.p r
         → Noting h.t n after r (left_state h) (h.k + 1) h.p h.c
@@ -414,7 +415,7 @@ module _ {n : ℕ} {words : List ℕ} {to cost steps step : ℕ} {notes : List �
                 is_taken = still h.from h.p h.c h.from_state h.stepping.is_taken;
                 fresh = λ x o e l is. fresh x o e l is (ℕ_discrete x to);
               };
-          noted = record { room = noted.room; told = λ b q d l e is alike. noted.told b q d l e (was b q d l is (ℕ_discrete b to)) alike };
+          noted = record { room = noted.room; told = λ b q d r l e is alike. noted.told b q d r l e (was b q d l is (ℕ_discrete b to)) alike };
         }
       where
         v : ℕ

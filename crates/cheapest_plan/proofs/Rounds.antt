@@ -8,14 +8,14 @@ use mathlib.Core.List.{List, []}
 use lib.Dec.{eqb}
 use lib.ListN.{length, get_or}
 use borrow.Author.Tests.{eq-eqb, ne_eqb}
-use Rattle.task.specs.declared.Head.{Head}
-use Rattle.task.specs.Table.{Task}
+use Rattle.task.specs.Table.{Lent, Task}
 use Rattle.state_queue.specs.Inner.Queue.{winner, Roomy, queued as waits_there}
 use Rattle.state_queue.proofs.Changes.{root_state}
+use Rattle.cheapest_plan.specs.Cheapest.{no_plan, cheapest}
 use Rattle.cheapest_plan.specs.Inner.States.{state_of}
 use Rattle.cheapest_plan.specs.Inner.Search.{unreached, queued, Changed}
 use Rattle.cheapest_plan.specs.Inner.Tables.{at_start, Says, says_unreached, says_queued}
-use Rattle.cheapest_plan.specs.Inner.Visits.{Known, Begun, GoalReady, Visitable, Visited, at_goal, passed, Visits, Searchable, SearchEnd, no_end, first_end}
+use Rattle.cheapest_plan.specs.Inner.Visits.{Known, Begun, GoalReady, Visitable, Visited, at_goal, passed, Visits, Searchable, FirstEnd}
 use Rattle.cheapest_plan.proofs.States.{state_bits}
 use Rattle.cheapest_plan.proofs.Search.{empty_queue}
 use Rattle.cheapest_plan.proofs.Searching.{begun}
@@ -73,11 +73,11 @@ pub state_below : {t : Task} {n s : ℕ} {words : List ℕ} → Known t n words 
 state_below k first some = rw first (root_state k.queue some)
 
 pub goal_ready_on :
-    {h : Head} {f state scratch state' scratch' : List ℕ}
-    → GoalReady h f state scratch
+    {given : Lent} {state scratch state' scratch' : List ℕ}
+    → GoalReady given state scratch
     → length state' ≡ length state
     → length scratch' ≡ length scratch
-    → GoalReady h f state' scratch'
+    → GoalReady given state' scratch'
 goal_ready_on g a b =
     record {
       few = g.few;
@@ -90,8 +90,8 @@ goal_ready_on g a b =
 
 -- a round takes a state
 pub round_less :
-    {h : Head} {f e o : List ℕ} {n s : ℕ} {before after : List ℕ} {r : Bool}
-    → Visits h f e o n s before after r
+    {given : Lent} {n s : ℕ} {before after : List ℕ} {r : Bool}
+    → Visits given n s before after r
     → r ≡ false
     → s < n
     → waits_there (get_or before s 0) ≡ true
@@ -100,7 +100,7 @@ round_less {n = n} {s = s} {before = before} {after = after} v no_goal l w =
     untaken_falls before after n v.zeros.stay s l (queued_word (get_or before s 0) w).0 (v.gone no_goal)
 
 -- the begin
-module _ {h : Head} {f e o : List ℕ} {n start : ℕ} (v : Searchable h f e o n start) where
+module _ {given : Lent} {n start : ℕ} (v : Searchable given n start) where
   at_initial : v.t.initial ≡ state_of (length v.t.initial) start
   at_initial = v.initial ∙ ap (λ (k : ℕ). state_of k start) (sym v.tables.variables)
 
@@ -138,7 +138,7 @@ module _ {h : Head} {f e o : List ℕ} {n start : ℕ} (v : Searchable h f e o n
 
   module _ {words : List ℕ} (known : Known v.t n words) {s : ℕ} (first : s ≡ winner words n 1) where
     -- a round
-    unfoldable pub visitable : waits_there (get_or words s 0) ≡ true → Visitable h f e o n s words
+    unfoldable pub visitable : waits_there (get_or words s 0) ≡ true → Visitable given n s words
     visitable w = record { t = v.t; tables = v.tables; ground = v.ground; known = known; first = first; waiting = w }
 
     module _ (w : waits_there (get_or words s 0) ≡ true) {after : List ℕ} where
@@ -147,14 +147,13 @@ module _ {h : Head} {f e o : List ℕ} {n start : ℕ} (v : Searchable h f e o n
       round-known e (at_goal g q) = let z : ◌≡◌ {A = Bool} true false = e in absurd (let x : ◌≡◌ {A = ℕ} 0 1 = cc in omega arith)
       round-known e (passed k) = k
 
-      pub round-goal : {r : Bool} → r ≡ true → s < n → Visited (visitable w) after r → SearchEnd v.t n after s
+      pub round-goal : {r : Bool} → r ≡ true → s < n → Visited (visitable w) after r → FirstEnd v.t n after s
       unfolding visitable
-      round-goal e l (at_goal g q) = rw q (first_end l known first w g)
+      round-goal e l (at_goal g q) = rw q (record { below = l; known = known; first = first; waiting = w; goal = g })
       round-goal e l (passed k) = absurd (let x : ◌≡◌ {A = ℕ} 0 1 = cc in omega arith)
 
-    -- the end
-    pub search_none : Roomy n words → waits_there (get_or words s 0) ≡ false → SearchEnd v.t n words n
-    search_none roomy e =
-        no_end refl
-        (empty_queue v.t v.ground.passes known.searching
-        (none-queued known.holds v.ground.states known.queue roomy.some (ap (λ (x : ℕ). waits_there (get_or words x 0)) (sym first) ∙ e)))
+  -- the end
+  pub search_none :
+      {words : List ℕ} → Known v.t n words → Roomy n words → waits_there (get_or words (winner words n 1) 0) ≡ false → cheapest v.t ≡ no_plan
+  search_none known roomy e =
+      empty_queue v.t v.ground.passes known.searching (none-queued known.holds v.ground.states known.queue roomy.some e)

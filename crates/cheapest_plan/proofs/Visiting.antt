@@ -10,9 +10,8 @@ use lib.Dec.{eqb}
 use lib.ListN.{length, get_or, set, take, length-append}
 use lib.Seq.{get_or-set_same, get_or-set_other, take_at}
 use borrow.Author.Tests.{lt-ltb, ltb-true, ltb-false}
-use Rattle.task.specs.declared.Head.{Head}
 use Rattle.task.specs.Bounded.{upto}
-use Rattle.task.specs.Table.{Operator, row_at, operator_at}
+use Rattle.task.specs.Table.{Lent, Operator, row_at, operator_at}
 use Rattle.task.specs.Rules.{no_operator}
 use Rattle.task.specs.Semantics.{holds}
 use Rattle.task.specs.Tree.{formula_of, effect_of}
@@ -30,7 +29,7 @@ use Rattle.cheapest_plan.specs.Inner.Leads.{next}
 use Rattle.cheapest_plan.specs.Inner.States.{Bits, code, state_of}
 use Rattle.cheapest_plan.specs.Inner.Search.{KeyLess, less_cost, less_steps, Status, queued, taken, waits, stands, Changed, LeastKey}
 use Rattle.cheapest_plan.specs.Inner.Tables.{Ends, at_start, by_step, most_cost, Says, says_taken, Holds, Stepping, Elsewhere, Zeros}
-use Rattle.cheapest_plan.specs.Inner.Visits.{Stage, SteppedTo, Expandable, GoalReady, GoalTold, TakenNow, Visitable, Visited, at_goal, passed}
+use Rattle.cheapest_plan.specs.Inner.Visits.{Stage, SteppedTo, GoalReady, GoalTold, TakenNow, Visitable, Visited, at_goal, passed}
 use Rattle.cheapest_plan.proofs.Leads.{leads_once}
 use Rattle.cheapest_plan.proofs.States.{state_bits, code_below, state_of_code}
 use Rattle.cheapest_plan.proofs.Search.{has_one}
@@ -44,28 +43,28 @@ unfolding bit
 told_bit true = refl
 told_bit false = refl
 
-module _ {h : Head} {f state scratch : List ℕ} (ready : GoalReady h f state scratch) (s : ℕ) where
-  pub goal_valuable : {now : List ℕ} → now ≡ state_of (length state) s → Valuable f 0 h.formulas now scratch
+module _ {given : Lent} {state scratch : List ℕ} (ready : GoalReady given state scratch) (s : ℕ) where
+  pub goal_valuable : {now : List ℕ} → now ≡ state_of (length state) s → Valuable given.formulas 0 given.head.formulas now scratch
   goal_valuable {now} e =
-      let size : length now ≡ h.variables = ap length e ∙ (state_bits (length state) s).size ∙ ready.size in
+      let size : length now ≡ given.head.variables = ap length e ∙ (state_bits (length state) s).size ∙ ready.size in
       record {
         there = ready.there;
         rule = λ i l. rw size (ready.rule i l);
         state_bits = rw e (state_bits (length state) s).bits;
         room = ready.room;
         order = omega arith;
-        below = values_none now (rows_of h.formulas f) scratch;
+        below = values_none now (rows_of given.head.formulas given.formulas) scratch;
       }
 
   pub goal_found :
-      {now after : List ℕ} → now ≡ state_of (length state) s → Valued f h.formulas now scratch after → GoalTold h f s after (eqb (get_or after h.goal 0) 1)
+      {now after : List ℕ} → now ≡ state_of (length state) s → Valued given.formulas given.head.formulas now scratch after → GoalTold given s after (eqb (get_or after given.head.goal 0) 1)
   goal_found {now} {after} e v =
-      let at : now ≡ state_of h.variables s = e ∙ ap (λ (k : ℕ). state_of k s) ready.size in
+      let at : now ≡ state_of given.head.variables s = e ∙ ap (λ (k : ℕ). state_of k s) ready.size in
       record {
         told =
-            ap (λ (x : ℕ). eqb x 1) (v.known.at h.goal ready.goal)
-            ∙ told_bit (holds now (formula_of (rows_of h.formulas f) h.goal))
-            ∙ ap (λ (x : List ℕ). holds x (formula_of (rows_of h.formulas f) h.goal)) at;
+            ap (λ (x : ℕ). eqb x 1) (v.known.at given.head.goal ready.goal)
+            ∙ told_bit (holds now (formula_of (rows_of given.head.formulas given.formulas) given.head.goal))
+            ∙ ap (λ (x : List ℕ). holds x (formula_of (rows_of given.head.formulas given.formulas) given.head.goal)) at;
         values = rw (← at) v.known;
       }
 
@@ -195,7 +194,7 @@ module _ {v n : ℕ} {status : List ℕ → Status} {words : List ℕ} (h : Hold
           omega (arith, q.1)
 
 -- The first state of the queue.
-module _ {h : Head} {f e o : List ℕ} {n s : ℕ} {words : List ℕ} (v : Visitable h f e o n s words) (roomy : Roomy n words) where
+module _ {given : Lent} {n s : ℕ} {words : List ℕ} (v : Visitable given n s words) (roomy : Roomy n words) where
   abbrev at_state : List ℕ
   at_state = state_of (length v.t.initial) s
 
@@ -211,15 +210,15 @@ module _ {h : Head} {f e o : List ℕ} {n s : ℕ} {words : List ℕ} (v : Visit
       first_queued.at
 
   -- the goal's test is the task's
-  goal_same : holds (state_of h.variables s) (formula_of (upto h.formulas (row_at f)) h.goal) ≡ goal_holds v.t at_state
+  goal_same : holds (state_of given.head.variables s) (formula_of (upto given.head.formulas (row_at given.formulas)) given.head.goal) ≡ goal_holds v.t at_state
   unfolding goal_holds
   goal_same = rw (v.tables.variables, v.tables.formulas, v.tables.goal) refl
 
-  pub visited_goal : {scratch : List ℕ} {r : Bool} → GoalTold h f s scratch r → r ≡ true → Visited v words true
+  pub visited_goal : {scratch : List ℕ} {r : Bool} → GoalTold given s scratch r → r ≡ true → Visited v words true
   visited_goal told e = at_goal (sym goal_same ∙ sym told.told ∙ e) refl
 
   -- it is taken
-  module _ {scratch : List ℕ} {r : Bool} (told : GoalTold h f s scratch r) (not-goal : r ≡ false) {mid : List ℕ} (now : TakenNow n s words mid) where
+  module _ {scratch : List ℕ} {r : Bool} (told : GoalTold given s scratch r) (not-goal : r ≡ false) {mid : List ℕ} (now : TakenNow n s words mid) where
     pub visit_taken :
         Stepping v.t n mid (state_of (length v.t.initial) s) 0 first_queued.p first_queued.c
     visit_taken =
@@ -289,50 +288,50 @@ module _ {h : Head} {f e o : List ℕ} {n s : ℕ} {words : List ℕ} (v : Visit
             (ends_on (still_taken (length v.t.initial) v.ground.states first_below change none away) first_queued.at.ends))
 
     -- where its operators lead
-    module _ (few : h.variables ≤ 10) {masks : List ℕ} (found : RowMasks e h.effects scratch masks) (room : h.formulas ≤ length scratch) (masks-room : h.effects ≤ length masks) where
-      pub operators_number : length v.t.operators ≡ h.operators
-      operators_number = ap length v.tables.operators ∙ length_upto h.operators (operator_at o)
+    module _ (few : given.head.variables ≤ 10) {masks : List ℕ} (found : RowMasks given.effects given.head.effects scratch masks) (room : given.head.formulas ≤ length scratch) (masks-room : given.head.effects ≤ length masks) where
+      pub operators_number : length v.t.operators ≡ given.head.operators
+      operators_number = ap length v.tables.operators ∙ length_upto given.head.operators (operator_at given.operators)
 
-      pub operator-row : (i : ℕ) → i < h.operators → operator_of v.t i ≡ operator_at o i
+      pub operator-row : (i : ℕ) → i < given.head.operators → operator_of v.t i ≡ operator_at given.operators i
       unfolding operator_of
       operator-row i l =
           ap (λ (x : List Operator). get_or x i no_operator) v.tables.operators
-          ∙ getD_upto h.operators (operator_at o) i no_operator l
+          ∙ getD_upto given.head.operators (operator_at given.operators) i no_operator l
 
-      values : Values at_state (upto h.formulas (row_at f)) h.formulas scratch
+      values : Values at_state (upto given.head.formulas (row_at given.formulas)) given.head.formulas scratch
       values = rw v.tables.variables told.values
 
       pub operator-applies :
-          (i : ℕ) → i < h.operators → get_or scratch (operator_at o i).precondition 0 ≡ bit (applicable v.t at_state i)
+          (i : ℕ) → i < given.head.operators → get_or scratch (operator_at given.operators i).precondition 0 ≡ bit (applicable v.t at_state i)
       unfolding applicable
       operator-applies i l =
           let inside : i < length v.t.operators = rw operators_number l in
-          values.at (operator_at o i).precondition (v.tables.ready.operator i l).formula
+          values.at (operator_at given.operators i).precondition (v.tables.ready.operator i l).formula
           ∙ sym (rw (lt-ltb i (length v.t.operators) inside, operator-row i l, v.tables.formulas) refl)
 
       pub effect-masked :
           (i : ℕ)
-          → i < h.operators
-          → Masked (length v.t.initial) at_state (effect_of (upto h.formulas (row_at f)) (upto h.effects (row_at e)) (operator_at o i).effect)
-          (get_or masks (operator_at o i).effect 0)
+          → i < given.head.operators
+          → Masked (length v.t.initial) at_state (effect_of (upto given.head.formulas (row_at given.formulas)) (upto given.head.effects (row_at given.effects)) (operator_at given.operators i).effect)
+          (get_or masks (operator_at given.operators i).effect 0)
       effect-masked i l =
           row_masked (rw v.tables.variables few)
           (λ j m. rw v.tables.variables (v.tables.ready.effect j m))
-          values found (operator_at o i).effect (v.tables.ready.operator i l).changes
+          values found (operator_at given.operators i).effect (v.tables.ready.operator i l).changes
 
       pub code-low : s < 2 ^ length v.t.initial
       code-low = rw (← v.ground.states) first_below
 
       pub operator-leads :
           (i : ℕ)
-          → i < h.operators
-          → state_of (length v.t.initial) (next_code s (get_or masks (operator_at o i).effect 0)) ≡ next v.t at_state i
+          → i < given.head.operators
+          → state_of (length v.t.initial) (next_code s (get_or masks (operator_at given.operators i).effect 0)) ≡ next v.t at_state i
       unfolding next effect_of_operator
       operator-leads i l =
           next_state (rw v.tables.variables few) code-low (effect-masked i l)
           ∙ sym (rw (operator-row i l, v.tables.formulas, v.tables.effects) refl)
 
-      unfoldable pub visit_stage : Stage n o h.operators s (get_or words s 0) (get_or words (n + s) 0) scratch masks
+      unfoldable pub visit_stage : Stage n given.operators given.head.operators s (get_or words s 0) (get_or words (n + s) 0) scratch masks
       visit_stage =
           record {
             t = v.t;
@@ -353,11 +352,7 @@ module _ {h : Head} {f e o : List ℕ} {n s : ℕ} {words : List ℕ} (v : Visit
             size = first_queued.at.steps;
           }
 
-      pub visit-expandable : Roomy n mid → Expandable n o h.operators s (get_or words s 0) (get_or words (n + s) 0) scratch masks mid
-      unfolding visit_stage
-      visit-expandable r = record { roomy = r; stage = visit_stage; stepping = visit_taken }
-
-      pub visited-on : {after : List ℕ} → (SteppedTo visit_stage mid 0 → SteppedTo visit_stage after h.operators) → Visited v after false
+      pub visited-on : {after : List ℕ} → (SteppedTo visit_stage mid 0 → SteppedTo visit_stage after given.head.operators) → Visited v after false
       unfolding visit_stage
       visited-on on =
           let x = on visit_taken in
@@ -372,16 +367,16 @@ module _ {h : Head} {f e o : List ℕ} {n s : ℕ} {words : List ℕ} (v : Visit
 
 -- what the words of effects ask
 pub visit_maskable :
-    {h : Head} {f e o : List ℕ} {n s : ℕ} {words scratch masks : List ℕ}
-    → Visitable h f e o n s words
-    → h.variables ≤ 10
-    → h.formulas ≤ length scratch
-    → h.effects ≤ length masks
-    → Maskable e h.effects scratch masks
-visit_maskable {h} v few room masks-room =
+    {given : Lent} {n s : ℕ} {words scratch masks : List ℕ}
+    → Visitable given n s words
+    → given.head.variables ≤ 10
+    → given.head.formulas ≤ length scratch
+    → given.head.effects ≤ length masks
+    → Maskable given.effects given.head.effects scratch masks
+visit_maskable {given} v few room masks-room =
     record {
-      v = h.variables;
-      f = h.formulas;
+      v = given.head.variables;
+      f = given.head.formulas;
       few = few;
       there = v.tables.ready.effects_there;
       rule = v.tables.ready.effect;

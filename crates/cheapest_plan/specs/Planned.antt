@@ -1,11 +1,13 @@
 -- What the call `cheapest` gives, refusals too (02, K1): the answer, and the plan's buffer and both scratches at exit, from the inputs alone.
-use Rattle.std.specs.Prelude.{ℕ, zero, suc, ◌*◌, ◌^◌, ◌≡◌, Bool, cond, ◌&&◌, List, length, leb}
+use Rattle.std.specs.Prelude.{ℕ, zero, suc, ◌*◌, ◌^◌, ◌≡◌, Bool, cond, ◌&&◌, List, length, leb, Result, Ok, Err}
 use Rattle.task.specs.declared.Head.{Head}
+use Rattle.task.specs.declared.refusal.Refusal.{Refusal}
 use Rattle.task.specs.Table.{Lent, task_of}
+use Rattle.task.specs.Refused.{number_of}
 use Rattle.task.specs.Check.{refusal, unless}
 use Rattle.task.specs.Words.{padded}
 use Rattle.stepper.specs.Stepped.{first_of, cleared, step_scratch_kept}
-use Rattle.cheapest_plan.specs.declared.CheapestOutcome.{CheapestOutcome}
+use Rattle.cheapest_plan.specs.declared.CheapestPlan.{CheapestPlan}
 use Rattle.cheapest_plan.specs.Cheapest.{Pick, no_plan, plan_of, cheapest}
 
 -- 21: twins count. A compiled task of 11 variables, 5 of them twins, is refused, though its source of 6 is not.
@@ -20,6 +22,17 @@ search_scratch_kept h scratch words = step_scratch_kept h scratch && leb (4 * 2 
 unfoldable pub search_refusal : Lent → (scratch words : List ℕ) → ℕ
 search_refusal l scratch words =
     first_of (refusal l) (unless (few_variables l.head) 21 (unless (search_scratch_kept l.head scratch words) 14 0))
+
+-- What the call answers: a plan, with refusal 0, its steps and its cost; or the number of a refusal, and nothing else.
+pub record CheapestOutcome : Type 0 where
+  pub refusal : ℕ
+  pub steps : ℕ
+  pub cost : ℕ
+
+-- what the code's answer tells
+abbrev pub plan_answered : Result CheapestPlan Refusal → CheapestOutcome
+plan_answered (Ok p) = record { refusal = 0; steps = p.steps; cost = p.cost }
+plan_answered (Err e) = record { refusal = number_of e; steps = 0; cost = 0 }
 
 -- What the call leaves.
 pub record Planned : Type 0 where

@@ -10,13 +10,8 @@ fn empty(words: &mut [u32], n: usize)
     requires { Roomy n words.old }
     ensures { Emptied n words.new }
 {
-    let mut s = 0;
-    while s < n {
-        words[s] = NOT_REACHED;
-        words[n + s] = 0;
-        words[2 * n + s] = 0;
-        s += 1;
-    }
+    words[..n].fill(NOT_REACHED);
+    words[n..3 * n].fill(0);
 }
 
 // The initial state alone is queued, at cost 0 and 0 steps.

@@ -2,66 +2,55 @@
 ghost use Rattle.std.specs.Prelude.{◌+◌, ◌<◌};
 ghost use Rattle.cheapest_plan.specs.Inner.Visits.{Steppable, StepsOn, Expandable, Expands};
 
-use crate::relax::{SECOND, relax};
+use crate::relax::{Arrival, relax};
 use state_codes::next_code;
-use task::operator_rows::{charge_of, effect_of, precondition_of};
+use task::operator_rows::operator_at;
 
 // As many states as there may be.
 const MOST_STATES: usize = 1024;
 
-// Operator o of `count` is stepped from a state whose cost and one is given, and its steps, if it is applicable there. The notes are what `compared`
-// keeps of that state.
-fn step_from(
-    operators: &[u16],
-    count: usize,
-    o: usize,
-    state: usize,
-    cost: u32,
-    steps: u32,
-    values: &[u8],
-    masks: &[u32],
-    words: &mut [u32],
-    n: usize,
-    notes: &mut [u8],
-)
-    requires { (o < count) × Steppable n operators.now count state cost steps values.now masks.now words.old notes.old o }
-    ensures { StepsOn n operators.now count state cost steps values.now masks.now notes.old o words.old words.new notes.new }
+// The state that was taken, its cost and one and its steps; the operators, so many of them; and in that state the values of all formulas and what
+// each effect does.
+#[derive(Clone, Copy)]
+pub struct Origin<'a> {
+    pub state: usize,
+    pub cost: u32,
+    pub steps: u32,
+    pub count: usize,
+    pub operators: &'a [u16],
+    pub values: &'a [u8],
+    pub masks: &'a [u32],
+}
+
+// Operator o is stepped, if it is applicable there. The notes are what `compared` keeps of the state that was taken.
+fn step_from(origin: &Origin<'_>, o: usize, words: &mut [u32], n: usize, notes: &mut [Option<bool>])
+    requires { (o < origin.now.count) × Steppable n origin.now words.old notes.old o }
+    ensures { StepsOn n origin.now notes.old o words.old words.new notes.new }
 {
-    let precondition = precondition_of(operators, o) as usize;
-    if values[precondition] == 0 {
+    let operator = operator_at(origin.operators, o);
+    if origin.values[operator.precondition as usize] == 0 {
         return;
     }
-    let effect = effect_of(operators, o) as usize;
-    let t = next_code(state, masks[effect]);
-    let charge = charge_of(operators, o);
-    let step = (256 * (state + 1) + o) as u32;
-    relax(words, n, t, cost + charge, steps + 1, step, notes);
+    let mask = origin.masks[operator.effect as usize];
+    let arrival = Arrival {
+        state: next_code(origin.state, mask),
+        cost: origin.cost + operator.charge(),
+        steps: origin.steps + 1,
+        last: (256 * (origin.state + 1) + o) as u32,
+    };
+    relax(words, n, arrival, notes);
 }
 
 // All operators, upwards: where another operator of the same state led, it is lower, and its list stays. Lists that tie are compared once for each
 // state that the other one comes from, however many operators lead there: without the notes, 256 operators from each of four ways of 256 steps that
 // tie took seven times as long.
-pub fn expand(
-    operators: &[u16],
-    count: usize,
-    state: usize,
-    cost: u32,
-    steps: u32,
-    values: &[u8],
-    masks: &[u32],
-    words: &mut [u32],
-    n: usize,
-)
-    requires { Expandable n operators.now count state cost steps values.now masks.now words.old }
-    ensures { Expands n operators.now count state cost steps values.now masks.now words.old words.new }
+pub fn expand(origin: &Origin<'_>, words: &mut [u32], n: usize)
+    requires { Expandable n origin.now words.old }
+    ensures { Expands n origin.now words.old words.new }
 {
-    let mut notes = [0u8; MOST_STATES];
-    notes[state] = SECOND;
-    let mut o = 0;
-    while o < count {
-        step_from(
-            operators, count, o, state, cost, steps, values, masks, words, n, &mut notes,
-        );
-        o += 1;
+    let mut notes = [None; MOST_STATES];
+    notes[origin.state] = Some(false);
+    for o in 0..origin.count {
+        step_from(origin, o, words, n, &mut notes);
     }
 }

@@ -3,7 +3,6 @@
 
 mod begin;
 pub mod call;
-mod clear;
 mod ends;
 mod expand;
 mod last_steps;
@@ -12,10 +11,9 @@ mod relax;
 mod visits;
 mod writing;
 
-// A plan: refusal 0, its steps and its cost. Refused: the number, and nothing else.
-#[derive(Clone, Copy)]
-pub struct CheapestOutcome {
-    pub refusal: u16,
+// A plan: its steps and its cost.
+#[derive(Clone, Copy, Debug, PartialEq, Eq)]
+pub struct CheapestPlan {
     pub steps: u32,
     pub cost: u64,
 }

@@ -11,9 +11,7 @@ pub fn write_plan(words: &[u32], n: usize, state: usize, steps: usize, plan: &mu
     ensures { Writes n words.now state steps plan.old plan.new }
 {
     let mut s = state;
-    let mut k = steps;
-    while 0 < k {
-        k -= 1;
+    for k in (0..steps).rev() {
         let step = words[2 * n + s];
         plan[k] = operator_of(step);
         s = parent_of(step);

@@ -22,8 +22,9 @@ use Rattle.normal_form.specs.Alike.{Alike}
 use Rattle.normal_form.specs.Compiled.{Room, compiled_head, compiling, given}
 use Rattle.normal_form.proofs.ShapePassed.{finished_variables}
 use Rattle.normal_form.proofs.Compiled.{given_compiles, given_task, given_head, given_passes}
+use Rattle.stepper.proofs.Refusing.{not_refused}
 use Rattle.plan.specs.Outcome.{early_refusal, run_refusal, run_answer, ran}
-use Rattle.plan.proofs.Refusing.{not_refused, run_not_refused, run_ready, short_enough}
+use Rattle.plan.proofs.Refusing.{run_not_refused, run_ready, short_enough}
 use Rattle.claims.proofs.DemandThree.{given_runs_alike}
 use Rattle.claims.proofs.DemandTwoRuns.{run_is_the_plain_run}
 
@@ -34,7 +35,7 @@ alike_answers r r' a = rw (a.steps, a.cost, a.goal, a.stop)
 module _ (l : Lent) (room : Room) (h : Head) (success : (compiling l room).answer ≡ compiled_head h) where
   width : (s numbers scratch : List ℕ) → run_refusal l s numbers scratch ≡ 0 → length s ≡ length (task_of l).initial
   width s numbers scratch e =
-      (run_ready l s numbers scratch e).state.size
+      (run_ready l s numbers scratch (sym e)).state.size
       ∙ sym (length_initial l (kept_rules l (given_compiles l room h success).passes).0)
 
   -- Where compiling succeeded and neither run is refused, they answer the same, steps, cost, goal and end, and their last states correspond.
@@ -91,9 +92,9 @@ module _ (l : Lent) (room : Room) (h : Head) (success : (compiling l room).answe
       every_from (length s') (λ v. leb (get_or s' v 0) 1) (λ v b. le-leb (get_or s' v 0) 1 (bits s s' states v b))
       in
       let early : 0 ≡ early_refusal (given h (compiling l room)) s' scratch' =
-      not_refused (given h (compiling l room)) s' scratch' 0 (sym (given_passes l room h success)) refl
-      (wide s s' (width s numbers scratch e) states) true (sym told) refl enough
+      not_refused (given h (compiling l room)) s' scratch' (sym (given_passes l room h success))
+      (wide s s' (width s numbers scratch e) states) (sym told) refl enough
       in
       sym
-      (run_not_refused (given h (compiling l room)) s' numbers scratch' 0 early refl
-      (short_enough l s numbers scratch e))
+      (run_not_refused (given h (compiling l room)) s' numbers scratch' early
+      (short_enough l s numbers scratch (sym e)))

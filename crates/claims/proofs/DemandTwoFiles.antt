@@ -13,10 +13,8 @@ use Rattle.task.proofs.Sixteen.{rules_with_costs}
 use Rattle.task.specs.Words.{head_of}
 use Rattle.file_format.specs.Bytes.{file_of}
 use Rattle.file_format.specs.Reading.{Lengths, accepted, rejected, reading}
-use Rattle.task_file.specs.declared.ReadAnswer.TheVariants.{Read}
-use Rattle.task_file.specs.Outcome.{outcome_of, read_outcome}
-use Rattle.task_writer.specs.declared.WriteAnswer.TheVariants.{Written}
-use Rattle.task_writer.specs.Writing.{file_outcome, write_outcome}
+use Rattle.task_file.specs.Outcome.{Read, outcome_of, read_outcome}
+use Rattle.task_writer.specs.Writing.{Written, file_outcome, write_outcome}
 use Rattle.file_format.proofs.Parse.{Bytes}
 use Rattle.file_format.proofs.RoundTrip.{read_written, written_read, cut_short, bytes_follow, apart}
 use Rattle.file_format.proofs.OfBytes.{bytes_each, each_byte, file_is_bytes, costs_of_bytes}

@@ -15,8 +15,7 @@ use Rattle.task.specs.Run.{operator_of, effect_of_operator, goal_holds, applicab
 use Rattle.task.proofs.Runs.{Does, none, more, Follows, charged, steps_done, ended_run, stopped_run, goal_told, each_follows, one_more, plan_exactly_if as plan-by-stop, length_after, becomes_one, becomes_zero, keeps}
 use Rattle.file_format.specs.Reading.{accepted, reading}
 use Rattle.task.specs.Words.{padded}
-use Rattle.plan.specs.declared.outcome.End.TheVariants.{Ended, Refused}
-use Rattle.plan.specs.Outcome.{early_refusal, run_refusal, cleared, step_refused, run_refused, step_told, end_of, run_answer, run_told, step_by, stepped, run_by, ran}
+use Rattle.plan.specs.Outcome.{Ended, Refused, early_refusal, run_refusal, cleared, step_refused, run_refused, step_told, end_of, run_answer, run_told, step_by, stepped, run_by, ran}
 use Rattle.entry_tables.specs.Own.{own}
 use Rattle.layouts.specs.Layout.{low_bytes, numbers_of, run_number, flag, run_bytes}
 use Rattle.layouts.proofs.RunBytes.{plan_byte}

@@ -12,7 +12,7 @@ use Rattle.task.specs.Table.{Lent, operator_width, task_of}
 use Rattle.task.specs.Rules.{no_operator, LongEnough}
 use Rattle.task.specs.Run.{operator_of, charge_of, charge}
 use Rattle.task.proofs.Held.{length_operators, operator_held}
-use Rattle.operator_records.specs.declared.OperatorRecord.{OperatorRecord}
+use Rattle.task.specs.declared.operator_rows.OperatorRecord.{OperatorRecord}
 use Rattle.operator_records.specs.Change.{number_of, with_percent, changed, change_by, change}
 use Rattle.operator_records.specs.Rows.{as_operator, no_record, row_record, with_record}
 use Rattle.claims.specs.OperatorRecords.{OneChanged, percent_changed}

@@ -21,11 +21,9 @@ use Rattle.file_format.specs.Reading.{Lengths, accepted, rejected, reading, Verd
 use Rattle.file_format.proofs.RoundTrip.{written_read}
 use Rattle.file_format.proofs.Numbers.{rejected_by}
 use Rattle.task_file.specs.Outcome.{outcome_of, read_outcome}
-use Rattle.task_writer.specs.declared.WriteAnswer.TheVariants.{Written, NotWritten}
-use Rattle.task_writer.specs.Writing.{wrote, file_outcome, write_outcome}
+use Rattle.task_writer.specs.Writing.{Written, NotWritten, wrote, file_outcome, write_outcome}
 use Rattle.stepper.specs.Stepped.{early_refusal, step_refused, step_told, step_by, stepped}
-use Rattle.plan.specs.declared.outcome.End.TheVariants.{Refused as RunRefused}
-use Rattle.plan.specs.Outcome.{run_refusal, run_refused, end_of, run_answer, run_told, run_by, ran}
+use Rattle.plan.specs.Outcome.{Refused as RunRefused, run_refusal, run_refused, end_of, run_answer, run_told, run_by, ran}
 use Rattle.normal_form.specs.Finished.{finished}
 use Rattle.normal_form.specs.Compiled.{Room, nothing_given, task_given, compiling}
 use Rattle.normal_form.proofs.Compiled.{given_compiles, given_outcome, given_head, refused_leaves, scratch_ends}

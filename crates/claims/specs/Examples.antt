@@ -5,9 +5,7 @@ use Rattle.task.specs.Table.{Row, Operator, Lent, Task, task_of, operator}
 use Rattle.task.specs.Check.{refusal}
 use Rattle.task.specs.Words.{lent_of}
 use Rattle.printing.specs.Lines.{bytes}
-use Rattle.plan.specs.declared.outcome.RunOutcome.{RunOutcome}
-use Rattle.plan.specs.declared.outcome.End.TheVariants.{Ended}
-use Rattle.plan.specs.Outcome.{ran}
+use Rattle.plan.specs.Outcome.{RunOutcome, Ended, ran}
 use Rattle.normal_form.specs.Compiled.{Room, Answer, compiled_head, not_compiled, CompileOutcome, compiling, given}
 use Rattle.compile_text.specs.Text.{text_of}
 

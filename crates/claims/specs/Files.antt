@@ -1,10 +1,8 @@
 -- What reading and writing say of each other, from what the two calls answer: a field for each thing that is the same.
 use Rattle.std.specs.Prelude.{ℕ, ◌*◌, ◌≡◌, List, length, take}
 use Rattle.task.specs.Table.{Lent, operator_width}
-use Rattle.task_file.specs.declared.ReadAnswer.TheVariants.{Read}
-use Rattle.task_file.specs.Outcome.{ReadOutcome}
-use Rattle.task_writer.specs.declared.WriteAnswer.TheVariants.{Written}
-use Rattle.task_writer.specs.Writing.{WriteOutcome}
+use Rattle.task_file.specs.Outcome.{Read, ReadOutcome}
+use Rattle.task_writer.specs.Writing.{Written, WriteOutcome}
 
 -- A reading gives the head of lent tables, and in each table as many words (of the initial state: bytes) as the head counts.
 pub record SameTables (l : Lent) (o : ReadOutcome) : Type 0 where

@@ -10,10 +10,8 @@ use Rattle.file_format.specs.Bytes.{file_of}
 use Rattle.file_format.specs.Reading.{rejected, reading}
 use Rattle.normal_form.specs.Finished.{finished}
 use Rattle.normal_form.specs.Compiled.{Room, Fits, Answer, compiled_head, not_compiled}
-use Rattle.task_writer.specs.declared.WriteAnswer.{WriteAnswer}
-use Rattle.task_writer.specs.declared.WriteAnswer.TheVariants.{Written, NotWritten}
-use Rattle.plan.specs.declared.outcome.End.{End}
-use Rattle.plan.specs.declared.outcome.End.TheVariants.{Ended, Stopped, Refused}
+use Rattle.task_writer.specs.Writing.{WriteAnswer, Written, NotWritten}
+use Rattle.plan.specs.Outcome.{End, Ended, Stopped, Refused}
 use Rattle.entry_tables.specs.Own.{own}
 use Rattle.layouts.specs.Layout.{tables_bytes, numbers_of}
 

@@ -1,7 +1,7 @@
 -- The words of the promises on operator records (02, K2).
 use Rattle.std.specs.Prelude.{ℕ, ◌≡◌, ◌≢◌, List, length, get_or}
 use Rattle.task.specs.Table.{Lent, lent}
-use Rattle.operator_records.specs.declared.OperatorRecord.{OperatorRecord}
+use Rattle.task.specs.declared.operator_rows.OperatorRecord.{OperatorRecord}
 use Rattle.operator_records.specs.Change.{with_percent}
 use Rattle.operator_records.specs.Rows.{no_record, row_record, with_record}
 

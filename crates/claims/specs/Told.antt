@@ -7,8 +7,7 @@ use Rattle.task.specs.Semantics.{Effect, sets, clears, holds, effcond}
 use Rattle.task.specs.Tree.{formula_of, effect_of}
 use Rattle.task.specs.Run.{ended, charge_of, plain_run}
 use Rattle.stepper.specs.Stepped.{Stepped}
-use Rattle.plan.specs.declared.outcome.End.TheVariants.{Stopped}
-use Rattle.plan.specs.Outcome.{Ran}
+use Rattle.plan.specs.Outcome.{Stopped, Ran}
 
 -- "A row is three words", an operator's four (02, K2): row i of a table of words, so wide.
 pub record IsRow (width : ℕ) (words : List ℕ) (i : ℕ) (part : List ℕ) : Type 0 where

@@ -6,13 +6,10 @@ use Rattle.task.specs.declared.Head.{Head}
 use Rattle.task.specs.Table.{Task, operator_width}
 use Rattle.file_format.specs.Bytes.{file_of}
 use Rattle.file_format.specs.Reading.{Lengths, accepted, reading}
-use Rattle.task_file.specs.declared.ReadAnswer.TheVariants.{Read, Refused}
-use Rattle.task_file.specs.Outcome.{ReadOutcome}
-use Rattle.task_writer.specs.declared.WriteAnswer.TheVariants.{Written, NotWritten}
-use Rattle.task_writer.specs.Writing.{WriteOutcome}
+use Rattle.task_file.specs.Outcome.{Read, Refused, ReadOutcome}
+use Rattle.task_writer.specs.Writing.{Written, NotWritten, WriteOutcome}
 use Rattle.stepper.specs.Stepped.{Stepped}
-use Rattle.plan.specs.declared.outcome.End.TheVariants.{Refused as RunRefused}
-use Rattle.plan.specs.Outcome.{Ran}
+use Rattle.plan.specs.Outcome.{Refused as RunRefused, Ran}
 use Rattle.normal_form.specs.Finished.{finished}
 use Rattle.normal_form.specs.Compiled.{Room, compiled_head, not_compiled, CompileOutcome}
 use Rattle.entry_tables.specs.Own.{own}

@@ -18,14 +18,12 @@ unfolding compile_entry_by
 compile_read o n t g = rw t.read g
 
 pub compile_no_file :
-    (m : Lengths) (file : List ℕ) (o n : ℕ) {k number r : ℕ} {out result : List ℕ}
+    (m : Lengths) (file : List ℕ) (o n k : ℕ) {r : ℕ} {out result : List ℕ}
     → reading m file ≡ rejected k
-    → number ≡ k
-    → CompileGives (no_file number o n) r out result
+    → CompileGives (no_file k o n) r out result
     → CompileGives (compile_entry_by (reading m file) o n) r out result
 unfolding compile_entry_by
-compile_no_file m file o n e same none =
-    rw e (record { told = none.told ∙ same; written = none.written; held = none.held })
+compile_no_file m file o n k e none = rw e none
 
 -- through tables of any lengths, any answer but 5 is the entry's
 pub compile_settled :

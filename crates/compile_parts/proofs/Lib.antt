@@ -1,3 +1,3 @@
 pub mod Asked
 pub mod Batched
-pub mod Written
+pub mod Parted

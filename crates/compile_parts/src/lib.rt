@@ -2,12 +2,12 @@
 #![tactic(auto)]
 
 mod batch;
-mod copy;
 mod last;
 mod whole;
 
 use formula_builder::Frame;
-pub use last::{finish, no_room};
+pub use formula_builder::NoRoom;
+pub use last::finish;
 pub use whole::build;
 
 // The source's counts and how much there is room for: in the frame its variables, formulas and effects, and room for rows and twins; then its
@@ -20,12 +20,11 @@ pub struct Counts {
     pub room: usize,
 }
 
-// The numbers of rows, twins and effect rows of the finished task and its goal; or that there was no room.
-#[derive(Clone, Copy)]
+// The numbers of rows, twins and effect rows of the finished task, and its goal.
+#[derive(Clone, Copy, Debug, PartialEq, Eq)]
 pub struct Filled {
     pub rows: u16,
     pub twins: u16,
     pub effects: u16,
     pub goal: u16,
-    pub full: bool,
 }

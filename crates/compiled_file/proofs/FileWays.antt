@@ -4,20 +4,19 @@ use native.Mathlib.Omega.{arith}
 use mathlib.Core.Path.{◌≡◌, refl, sym, ap, ◌∙◌}
 use mathlib.Core.Bool.{Bool, true, false, ◌&&◌}
 use mathlib.Core.List.{List}
-use lib.ListN.{length, replicate}
+use lib.ListN.{length, replicate, take}
 use lib.Dec.{leb}
+use Rattle.std.specs.Int.{w64, to_le_bytes}
 use borrow.Author.Tests.{le-leb, lt-leb}
 use Rattle.task.specs.Table.{Lent, task_of}
 use Rattle.task.specs.Check.{refusal}
 use Rattle.file_format.specs.Bytes.{file_of}
-use Rattle.task_writer.specs.declared.WriteAnswer.{WriteAnswer}
-use Rattle.task_writer.specs.declared.WriteAnswer.TheVariants.{Written, NotWritten}
 use Rattle.task_writer.specs.Inner.Putting.{Put}
-use Rattle.task_writer.specs.Writing.{WriteOutcome, wrote, file_outcome, write_outcome}
+use Rattle.task_writer.specs.Writing.{WriteAnswer, Written, NotWritten, WriteOutcome, wrote, file_outcome, write_outcome}
 use Rattle.task.specs.Words.{padded}
 use Rattle.layouts.specs.Layout.{low_bytes}
 use Rattle.layouts.proofs.LayWays.{put_padded, size}
-use Rattle.layouts.proofs.RunWays.{low_next}
+use Rattle.layouts.proofs.RunWays.{low_next, le_eight}
 use Rattle.compiled_file.specs.Filed.{CompileEntry, no_file, filed_by, filed, CompileGives}
 
 and_false : (a : Bool) → a && false ≡ false
@@ -46,21 +45,24 @@ module _ (l : Lent) (out result : List ℕ) where
     by_file = rw kept at writes
 
     pub short_out :
-        {n : ℕ} {result' : List ℕ}
+        {n told : ℕ} {result' : List ℕ}
         → r ≡ NotWritten n
+        → told ≡ n
         → result' ≡ replicate (length result) 0
-        → CompileGives (filed (file_of (task_of l)) (length out) (length result)) 20 out' result'
+        → CompileGives (filed (file_of (task_of l)) (length out) (length result)) told out' result'
     unfolding filed filed_by file_outcome
-    short_out {n} {result'} q b = go (leb (length file) (length out)) refl
+    short_out {n} {told} {result'} q same b = go (leb (length file) (length out)) refl
       where
-        go : (x : Bool) → leb (length file) (length out) ≡ x → CompileGives (filed (file_of (task_of l)) (length out) (length result)) 20 out' result'
+        go : (x : Bool) → leb (length file) (length out) ≡ x → CompileGives (filed (file_of (task_of l)) (length out) (length result)) told out' result'
         go true e =
             let s : wrote r out' ≡ wrote (Written (length file)) (padded (length out) file) = rw e at by_file in
             let w : NotWritten n ≡ Written (length file) = sym q ∙ ap (λ (y : WriteOutcome). y.answer) s in
             absurd (let z : ◌≡◌ {A = ℕ} 0 1 = cc in omega arith)
         go false e =
             let s : wrote r out' ≡ wrote (NotWritten 20) (replicate (length out) 0) = rw e at by_file in
-            rw e (record { told = refl; written = ap (λ (y : WriteOutcome). y.out) s; held = b })
+            let w : NotWritten n ≡ NotWritten 20 = sym q ∙ ap (λ (y : WriteOutcome). y.answer) s in
+            let twenty : n ≡ 20 = cc in
+            rw e (record { told = same ∙ twenty; written = ap (λ (y : WriteOutcome). y.out) s; held = b })
 
     pub gives_file :
         {n end : ℕ} {z result' : List ℕ}
@@ -90,6 +92,11 @@ module _ (l : Lent) (out result : List ℕ) where
             let s : wrote r out' ≡ wrote (NotWritten 20) (replicate (length out) 0) = rw e at by_file in
             let w : Written n ≡ NotWritten 20 = sym q ∙ ap (λ (y : WriteOutcome). y.answer) s in
             absurd (let z : ◌≡◌ {A = ℕ} 0 1 = cc in omega arith)
+
+-- the four low bytes of eight
+pub le_front : (x : ℕ) → take 4 (to_le_bytes w64 x) ≡ low_bytes 4 x
+unfolding low_bytes
+le_front x = ap (take 4) (le_eight x)
 
 -- the outputs' lengths, as a call before left them
 pub same_outputs :

@@ -4,7 +4,6 @@ pub mod Source
 pub mod Linked
 pub mod Filled
 pub mod Owned
-pub mod Lesser
 pub mod Cleared
 pub mod Refusing
 pub mod Ways

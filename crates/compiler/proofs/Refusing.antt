@@ -2,6 +2,7 @@
 use Prim.Native.Nat.{ℕ, zero, suc, ◌+◌, ◌*◌, ◌≤◌, ◌<◌}
 use native.Mathlib.Omega.{arith}
 use mathlib.Core.Path.{◌≡◌, refl, sym}
+use mathlib.Core.Logic.{◌⊎◌, inl, inr}
 use lib.ListN.{length}
 use Rattle.task.specs.Table.{Lent, Task, task_of, operator_width}
 use Rattle.task.specs.Check.{refusal}
@@ -40,10 +41,10 @@ module _ (l : Lent) (room : Room) where
         no_room : (Fits (finished (task_of l)) room → ⊥) → Numbered l room 15
         no_room n = refused 14 (by_room l room passes none memo n)
 
-        pub short-initial : room.initial < l.head.variables → Numbered l room 15
+        short-initial : room.initial < l.head.variables → Numbered l room 15
         short-initial h = no_room (λ fit. omega (arith, fit.tables.initial, finished_variables t, its_variables l passes))
 
-        pub short-operators : room.operators < operator_width * l.head.operators → Numbered l room 15
+        short-operators : room.operators < operator_width * l.head.operators → Numbered l room 15
         short-operators h = no_room (λ fit. omega (arith, fit.tables.operators, finished_operators t, length_operators l))
 
         one_effect : 1 ≤ length (finished (task_of l)).effects
@@ -52,8 +53,16 @@ module _ (l : Lent) (room : Room) where
             longer unassembled.effects (assembled t).effects
             (assemble_effects (length t.initial) (built t).st.twins unassembled (built t).value.operators)
 
-        pub short-effects : room.effects < 3 → Numbered l room 15
+        short-effects : room.effects < 3 → Numbered l room 15
         short-effects h = no_room (λ fit. omega (arith, fit.tables.effects, one_effect))
+
+        -- a table is too short for what every finished task has
+        pub no_room_for :
+            (room.initial < l.head.variables) ⊎ ((room.operators < operator_width * l.head.operators) ⊎ (room.effects < 3))
+            → Numbered l room 15
+        no_room_for (inl h) = short-initial h
+        no_room_for (inr (inl h)) = short-operators h
+        no_room_for (inr (inr h)) = short-effects h
 
         pub no_number :
             l.head.variables ≤ room.initial

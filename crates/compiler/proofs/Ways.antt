@@ -1,11 +1,15 @@
 -- From the numbers to filling, and the ways out of compiling. Assumes nothing.
-use Prim.Native.Nat.{ℕ, ◌+◌, ◌/◌, ◌≤◌}
+use Prim.Native.Nat.{ℕ, ◌+◌, ◌≤◌}
 use native.Mathlib.Omega.{arith}
-use mathlib.Core.Path.{◌≡◌, sym, ap, ◌∙◌}
-use mathlib.Core.Bool.{true, false}
+use mathlib.Core.Path.{◌≡◌, refl, sym, ap, ◌∙◌}
+use Rattle.std.specs.Prelude.{Result, Ok, Err}
+use Rattle.std.specs.Result.{IsErrAnd}
 use mathlib.Core.List.{List, []}
 use lib.ListN.{length, take, replicate}
 use Rattle.task.specs.declared.Head.{Head}
+use Rattle.task.specs.declared.refusal.Refusal.{Refusal}
+use Rattle.task.specs.declared.refusal.Refusal.TheVariants as r
+use Rattle.task.specs.Refused.{number_of}
 use Rattle.task.specs.Table.{Lent, lent, task_of}
 use Rattle.task.specs.Check.{refusal}
 use Rattle.task.specs.Words.{head_of}
@@ -16,13 +20,13 @@ use Rattle.normal_form.proofs.Compiled.{by_room, succeeds}
 use Rattle.compile_parts.specs.declared.Counts.{Counts}
 use Rattle.compile_parts.specs.declared.Filled.{Filled}
 use Rattle.compiler.specs.declared.Lengths.{Lengths}
-use Rattle.compiler.specs.declared.CompileAnswer.TheVariants.{Compiled, Refused}
-use Rattle.compiler.specs.Left.{compile_left}
+use Rattle.compiler.specs.Left.{answer_of, compile_left}
 use Rattle.compiler.specs.Tables.{Tables, tables, room_of}
-use Rattle.compiler.specs.Inner.Sizes.{Least, MostTwins, counts_by, CountsOf}
+use Rattle.compiler.specs.Inner.Sizes.{counts_in}
 use Rattle.compiler.specs.Inner.Numbers.{Passed}
-use Rattle.compiler.specs.Inner.Fills.{Blanked, counted, Roomy, head_after, Holds, Fills}
+use Rattle.compiler.specs.Inner.Fills.{Blanked, counted, lent_of, Roomy, head_after, Holds, Misfits, Fills}
 use Rattle.compiler.proofs.Cleared.{same_room}
+use Rattle.compiler.proofs.Source.{few_variables}
 
 -- a source, without its twins
 abbrev without : Lent → Lent
@@ -72,17 +76,18 @@ lengths_of x =
       scratch = length x.scratch;
     }
 
--- a number, and every table 0
-pub refuses :
-    (l : Lent) {x y : Tables} (n : ℕ)
+-- a refusal, and every table 0
+refuses :
+    (l : Lent) {x y : Tables} (r : Result Head Refusal) (n : ℕ)
+    → answer_of r ≡ not_compiled n
     → compiling l (room_of x) ≡ nothing_given n (room_of x)
     → Blanked x y
-    → compile_left (Refused n) y ≡ compiling l (room_of x)
+    → compile_left r y ≡ compiling l (room_of x)
 unfolding nothing_given
-refuses l n e b =
+refuses l r n same e b =
     (λ i.
     record {
-      answer = not_compiled n;
+      answer = same i;
       initial = b.initial i;
       twins = b.twins i;
       formulas = b.formulas i;
@@ -92,91 +97,85 @@ refuses l n e b =
     })
     ∙ sym e
 
+-- one that `?` returns onward
 pub refuses_first :
-    (l : Lent) {x y : Tables} (n : ℕ)
-    → compiling l (room_of y) ≡ nothing_given n (room_of y)
+    (l : Lent) {x y : Tables} (r : Result Head Refusal) (e : Refusal)
+    → IsErrAnd r (λ z. z ≡ e)
+    → compiling l (room_of y) ≡ nothing_given (number_of e) (room_of y)
     → Blanked x y
-    → compile_left (Refused n) y ≡ compiling l (room_of x)
-refuses_first l n e b = refuses l n (rw (same_room b) at e) b
+    → compile_left r y ≡ compiling l (room_of x)
+refuses_first l (Ok h) e given is b = absurd given
+refuses_first l (Err z) e given is b =
+    refuses l (Err z) (number_of e) (ap (λ (k : Refusal). not_compiled (number_of k)) given) (rw (same_room b) at is) b
 
 -- With no number, over tables that are all 0.
 module _ {l : Lent} {x : Tables} (p : Passed l (room_of x)) where
-  module _ {c : Counts} (k : CountsOf l.head (lengths_of x) c) where
-    roomy_by :
-        (rows twins room : ℕ)
-        → Least 4096 (length x.formulas / 3) rows
-        → MostTwins l.head.variables (length x.initial) (length x.twins) twins
-        → Least 4096 (length x.effects / 3) room
-        → Blanked x x
-        → Roomy (counted (counts_by l.head rows twins room) l.initial l.formulas l.effects l.operators) x
-    roomy_by rows twins room r w f blank =
-        record {
-          begins =
-              record {
-                passes = still_passes l p.untwinned p.passes;
-                blank = blank;
-                memo = p.memo;
-                rows_space = omega (arith, r.second);
-                rows_limit = r.first;
-                twins_space = w.twins_space;
-                variables_limit = w.limit;
-                initial_space = w.initial_space;
-                effects_space = omega (arith, f.second);
-                effects_limit = f.first;
-                one_effect = f.most 1 (omega arith) (omega (arith, p.effects));
-                operators_space = p.operators;
-              };
-          allows =
-              record {
-                rows_allowed = λ n a b. r.most n a (omega arith);
-                twins_allowed = w.most;
-                effects_allowed = λ n a b. f.most n a (omega arith);
-              };
-        }
+  roomy_here : Blanked x x → Roomy (counted (counts_in l.head (lengths_of x)) l) x
+  roomy_here blank =
+      record {
+        begins =
+            record {
+              passes = still_passes l p.untwinned p.passes;
+              blank = blank;
+              memo = p.memo;
+              rows_space = omega arith;
+              rows_limit = omega arith;
+              twins_space = omega arith;
+              variables_limit = omega (arith, few_variables l p.passes);
+              initial_space = omega (arith, p.initial);
+              effects_space = omega arith;
+              effects_limit = omega arith;
+              one_effect = omega (arith, p.effects);
+              operators_space = p.operators;
+            };
+        allows =
+            record {
+              rows_allowed = λ n a b. omega arith;
+              twins_allowed = λ n a b c. omega arith;
+              effects_allowed = λ n a b. omega arith;
+            };
+      }
 
-    pub roomy : Blanked x x → Roomy (counted c l.initial l.formulas l.effects l.operators) x
-    roomy blank = rw k.same (roomy_by c.frame.rows c.frame.twins c.room k.rows k.twins k.room blank)
+  module _ {c : Counts} (k : c ≡ counts_in l.head (lengths_of x)) where
+    pub roomy : Blanked x x → Roomy (counted c l) x
+    roomy blank = rw k (roomy_here blank)
 
-    module _ {y : Tables} {r : Filled} (f : Fills (counted c l.initial l.formulas l.effects l.operators) x y r) where
-      abbrev fills_it : Fills (counted (counts_by l.head c.frame.rows c.frame.twins c.room) l.initial l.formulas l.effects l.operators) x y r
-      fills_it = rw k.same at f
-
-      pub filled-over : Blanked x x → r.full ≡ true → compile_left (Refused 15) y ≡ compiling l (room_of x)
-      filled-over b q =
-          let again : Blanked x y = rw (fills_it.tries.over q) b in
-          refuses l 15
-          (by_room l (room_of x) p.passes p.untwinned p.memo (λ fit. fills_it.misfit q (rw (same_task l p.untwinned) fit)))
+    -- what filling leaves
+    module _ {y : Tables} where
+      pub filled-over : {E : Type 0} (e : E) → Fills (counted c l) x y (Err e) → Blanked x x → compile_left (Err r.NoRoom) y ≡ compiling l (room_of x)
+      filled-over e f b =
+          let fills : Misfits (counted (counts_in l.head (lengths_of x)) l) x y = rw k at f in
+          let again : Blanked x y = rw fills.same b in
+          refuses l (Err r.NoRoom) 15 refl
+          (by_room l (room_of x) p.passes p.untwinned p.memo (λ fit. fills.misfit (rw (same_task l p.untwinned) fit)))
           again
 
-      held : r.full ≡ false → Holds (without l) x y r
-      held q = fills_it.tries.done q
+      module _ {filled : Filled} (f : Holds (lent_of (counted c l)) x y filled) where
+        held : Holds (without l) x y filled
+        held = rw k at f
 
-      pub variables-fit : r.full ≡ false → l.head.variables + r.twins ≤ 512
-      unfolding head_of
-      variables-fit q =
-          let h = held q in
-          omega (arith, h.fits.limits.variables, ap (λ (k : Head). k.variables) h.head)
+        pub variables-fit : l.head.variables + filled.twins ≤ 512
+        unfolding head_of
+        variables-fit = omega (arith, held.fits.limits.variables, ap (λ (k : Head). k.variables) held.head)
 
-      pub filled-done :
-          {s : List ℕ} {n : Head}
-          → r.full ≡ false
-          → n ≡ head_after l.head r
-          → s ≡ replicate (length x.scratch) 0
-          → compile_left (Compiled n) (tables y.initial y.twins y.formulas y.effects y.operators s) ≡ compiling l (room_of x)
-      unfolding task_given
-      filled-done q n e =
-          let h = held q in
-          (λ i.
-          record {
-            answer = compiled_head ((n ∙ sym h.head) i);
-            initial = h.initial i;
-            twins = h.twins i;
-            formulas = h.formulas i;
-            effects = h.effects i;
-            operators = h.operators i;
-            scratch = e i;
-          })
-          ∙ ap (λ t. task_given (finished t) (room_of x)) (same_task l p.untwinned)
-          ∙ sym
-          (succeeds l (room_of x)
-          (record { passes = p.passes; untwinned = p.untwinned; scratch = p.memo; fits = rw (same_task l p.untwinned) at h.fits }))
+        pub filled-done :
+            {s : List ℕ} {n : Head}
+            → n ≡ head_after l.head filled
+            → s ≡ replicate (length x.scratch) 0
+            → compile_left (Ok n) (tables y.initial y.twins y.formulas y.effects y.operators s) ≡ compiling l (room_of x)
+        unfolding task_given
+        filled-done n e =
+            (λ i.
+            record {
+              answer = compiled_head ((n ∙ sym held.head) i);
+              initial = held.initial i;
+              twins = held.twins i;
+              formulas = held.formulas i;
+              effects = held.effects i;
+              operators = held.operators i;
+              scratch = e i;
+            })
+            ∙ ap (λ t. task_given (finished t) (room_of x)) (same_task l p.untwinned)
+            ∙ sym
+            (succeeds l (room_of x)
+            (record { passes = p.passes; untwinned = p.untwinned; scratch = p.memo; fits = rw (same_task l p.untwinned) at held.fits }))

@@ -1,15 +1,17 @@
 -- What compiling leaves, as one value; and, passed on, the six tables that it is lent.
+use Rattle.std.specs.Prelude.{Result, Ok, Err}
+use Rattle.task.specs.declared.Head.{Head}
+use Rattle.task.specs.declared.refusal.Refusal.{Refusal}
+use Rattle.task.specs.Refused.{number_of}
 use Rattle.normal_form.specs.Compiled.{Answer, compiled_head, not_compiled, CompileOutcome}
-use Rattle.compiler.specs.declared.CompileAnswer.{CompileAnswer}
-use Rattle.compiler.specs.declared.CompileAnswer.TheVariants.{Compiled, Refused}
 pub use Rattle.compiler.specs.Tables.{Tables, tables, room_of}
 
-abbrev pub answer_of : CompileAnswer → Answer
-answer_of (Compiled h) = compiled_head h
-answer_of (Refused n) = not_compiled n
+abbrev pub answer_of : Result Head Refusal → Answer
+answer_of (Ok h) = compiled_head h
+answer_of (Err e) = not_compiled (number_of e)
 
 -- the answer, and every table at exit
-abbrev pub compile_left : CompileAnswer → Tables → CompileOutcome
+abbrev pub compile_left : Result Head Refusal → Tables → CompileOutcome
 compile_left r y =
     record {
       answer = answer_of r;

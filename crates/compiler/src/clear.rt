@@ -2,8 +2,6 @@
 ghost use Rattle.compiler.specs.Inner.Fills.{Blanked};
 ghost use Rattle.compiler.specs.Tables.{tables};
 
-use task::clear::{clear_bytes, clear_words};
-
 // All 0. Linear in what is lent.
 pub fn clear_all(
     values: &mut [u8],
@@ -15,10 +13,10 @@ pub fn clear_all(
 )
     ensures { Blanked (tables values.old originals.old table.old out.old written.old scratch.old) (tables values.new originals.new table.new out.new written.new scratch.new) }
 {
-    clear_bytes(values);
-    clear_words(originals);
-    clear_words(table);
-    clear_words(out);
-    clear_words(written);
-    clear_words(scratch);
+    values.fill(0);
+    originals.fill(0);
+    table.fill(0);
+    out.fill(0);
+    written.fill(0);
+    scratch.fill(0);
 }

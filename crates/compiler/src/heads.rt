@@ -6,16 +6,16 @@ use compile_parts::Filled;
 use task::Head;
 
 // The source's head, after what filling answered. Constant cost.
-pub fn compiled_head(head: Head, p: Filled) -> Head
-    requires { head.variables + p.twins ≤ 512 }
-    ensures { result ≡ head_after head p }
+pub fn compiled_head(head: Head, filled: Filled) -> Head
+    requires { head.variables + filled.twins ≤ 512 }
+    ensures { result ≡ head_after head filled }
 {
     Head {
-        variables: head.variables + p.twins,
-        twins: p.twins,
-        formulas: p.rows,
-        effects: p.effects,
+        variables: head.variables + filled.twins,
+        twins: filled.twins,
+        formulas: filled.rows,
+        effects: filled.effects,
         operators: head.operators,
-        goal: p.goal,
+        goal: filled.goal,
     }
 }

@@ -4,6 +4,8 @@
 //     built      | 3 words a row | 2 words a row | 4 words a row | 1 word a variable |
 //                  the rows        links           heads           the row of its twin
 //
+//     twins      | 1 word a twin: its original |      for all that the limits allow, 1 KiB
+//
 //     records    | 3 words an operator | 3 words a change |
 //
 //     notes      | 1 word an effect | 3 words an effect | 4 words an effect for each 32 variables | 2 or 3 words a variable

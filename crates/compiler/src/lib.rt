@@ -10,17 +10,9 @@ mod numbers;
 mod sizes;
 
 pub use call::compile;
-use task::Head;
-
-// The head of the compiled task, or the number of the refusal.
-#[derive(Clone, Copy)]
-pub enum CompileAnswer {
-    Compiled(Head),
-    Refused(u16),
-}
 
 // How many bytes or words of each of the six lent tables there are.
-#[derive(Clone, Copy)]
+#[derive(Clone, Copy, Debug, PartialEq, Eq)]
 struct Lengths {
     values: usize,
     originals: usize,

@@ -1,6 +1,6 @@
 // How much the lent tables allow, and how large a frame is tried. Constant cost, all of them.
-ghost use Rattle.std.specs.Prelude.{◌≤◌};
-ghost use Rattle.compiler.specs.Inner.Sizes.{Least, MostTwins, CountsOf, Fewer, Small};
+ghost use Rattle.std.specs.Prelude.{◌≤◌, ◌≡◌, min};
+ghost use Rattle.compiler.specs.Inner.Sizes.{counts_in, with_rows, Small};
 
 use crate::Lengths;
 use crate::layout::{
@@ -11,65 +11,38 @@ use compile_parts::Counts;
 use formula_builder::Frame;
 use task::Head;
 
-// The lesser of two.
-fn least(a: usize, b: usize) -> usize
-    ensures { Least a b result }
-{
-    if a < b {
-        return a;
-    }
-    b
-}
-
-// As many twins as the limit and the lengths of the tables for initial values and originals allow.
-fn most_twins(variables: usize, values: usize, originals: usize) -> usize
-    requires { (variables ≤ 512) × (variables ≤ values) }
-    ensures { MostTwins variables values originals result }
-{
-    let lent = least(originals, values - variables);
-    least(MOST_VARIABLES - variables, lent)
-}
-
 // The source's counts, and as much room as the limits and the lent tables allow.
 pub fn counts_of(head: Head, lengths: Lengths) -> Counts
     requires { (head.variables ≤ 512) × (head.variables ≤ lengths.values) }
-    ensures { CountsOf head lengths result }
+    ensures { result ≡ counts_in head lengths }
 {
     let variables = head.variables as usize;
-    let rows = least(MOST_ROWS, lengths.table / 3);
-    let twins = most_twins(variables, lengths.values, lengths.originals);
-    let room = least(MOST_EFFECT_ROWS, lengths.out / 3);
+    let twins = lengths.originals.min(lengths.values - variables);
     Counts {
         frame: Frame {
-            variables: variables,
+            variables,
             formulas: head.formulas as usize,
             effects: head.effects as usize,
-            rows: rows,
-            twins: twins,
+            rows: (lengths.table / 3).min(MOST_ROWS),
+            twins: twins.min(MOST_VARIABLES - variables),
         },
         operators: head.operators as usize,
         goal: head.goal as usize,
-        room: room,
+        room: (lengths.out / 3).min(MOST_EFFECT_ROWS),
     }
 }
 
 // The same with no more rows than a small frame has.
 pub fn fewer_rows(counts: Counts) -> Counts
-    ensures { Fewer counts result }
+    ensures { result ≡ with_rows counts (min counts.frame.rows 512) }
 {
     let frame = counts.frame;
-    let rows = least(SMALL_ROWS, frame.rows);
     Counts {
         frame: Frame {
-            variables: frame.variables,
-            formulas: frame.formulas,
-            effects: frame.effects,
-            rows: rows,
-            twins: frame.twins,
+            rows: frame.rows.min(SMALL_ROWS),
+            ..frame
         },
-        operators: counts.operators,
-        goal: counts.goal,
-        room: counts.room,
+        ..counts
     }
 }
 
@@ -78,14 +51,8 @@ pub fn is_small(counts: Counts) -> bool
     ensures { Small counts result }
 {
     let frame = counts.frame;
-    if SMALL_FORMULAS < frame.formulas {
-        return false;
-    }
-    if SMALL_EFFECTS < frame.effects {
-        return false;
-    }
-    if SMALL_VARIABLES < frame.variables {
-        return false;
-    }
-    counts.operators <= SMALL_OPERATORS
+    frame.formulas <= SMALL_FORMULAS
+        && frame.effects <= SMALL_EFFECTS
+        && frame.variables <= SMALL_VARIABLES
+        && counts.operators <= SMALL_OPERATORS
 }

@@ -1,5 +1,5 @@
 -- What the code answers for an effect row, in each case. Assumes nothing.
-use Prim.Native.Nat.{ℕ, ◌-◌, ◌≤◌, ◌<◌}
+use Prim.Native.Nat.{ℕ, ◌<◌}
 use native.Mathlib.Omega.{arith}
 use mathlib.Core.Path.{◌≡◌, refl, sym, ap, ◌∙◌}
 use mathlib.Core.Bool.{Bool, true, false, cond, not}
@@ -7,32 +7,29 @@ use mathlib.Core.List.{List}
 use lib.ListN.{length}
 use lib.Dec.{eqb}
 use borrow.Author.Tests.{eq-eqb, ne_eqb}
+use Rattle.task.specs.declared.kinds.EffectKind.{EffectKind}
+use Rattle.task.specs.declared.kinds.EffectKind.TheVariants.{Empty, Set, Clear, Both, Under}
+use Rattle.task.specs.Kinds.{effect_number}
 use Rattle.task.specs.Table.{Row, row_at}
 use Rattle.task.proofs.Bounded.{length_upto}
-use Rattle.normal_form.specs.Builder.{Build, give, bind, join, pair, Polarity, plain, negated, opposite, image_of_false, image_of_true}
+use Rattle.normal_form.specs.Builder.{Build, give, bind, join, pair, opposite, image_of_false, image_of_true}
 use Rattle.normal_form.specs.Conditions.{guarded}
 use Rattle.normal_form.proofs.Growth.{steady_give, steady_bind, steady_join}
 use Rattle.normal_form.proofs.Steady.{steady_guarded}
 use Rattle.formula_builder.specs.declared.Words.{Words}
 use Rattle.formula_builder.specs.declared.Frame.{Frame}
-use Rattle.formula_builder.specs.declared.Size.{Size}
-use Rattle.formula_builder.specs.declared.Step.{Step}
-use Rattle.formula_builder.specs.Inner.Held.{Store, row_of, held, size_of, stepped, side}
-use Rattle.formula_builder.proofs.Steps.{builds_done, falsity_small}
+use Rattle.formula_builder.specs.Inner.Held.{Size, Step, Store, row_of, held, size_of, done_step, side}
+use Rattle.formula_builder.proofs.Steps.{builds_done, falsity_small, truth_small}
 use Rattle.images.specs.Inner.Images.{tree, image_at, Images, Asks as AsksImage}
 use Rattle.images.proofs.Memos.{steady_image_at}
 use Rattle.atom_sets.specs.Inner.Sets.{lacks, InSet}
 use Rattle.conditions.specs.declared.Target.{Target}
 use Rattle.conditions.specs.Inner.Conditions.{atom_of, acts, atom_row, condition_at, AsksKept, Recalls, Asks, Conditions}
 use Rattle.conditions.specs.Inner.Joins.{AsksJoin, Joined}
-use Rattle.conditions.proofs.Rows.{join_with_left, join_with_right, both_lower, under_lower, under_else, of_atom, of_both, of_under}
+use Rattle.conditions.proofs.Rows.{join_with_left, join_with_right, both_lower, under_lower, kind_known, of_atom, of_both, of_under}
 use Rattle.conditions.proofs.Notes.{steady_condition_at, looks}
 use Rattle.conditions.proofs.Memos.{conditions_as, asks_next, conditions_of_images, conditions_leaf, conditions_bind, conditions_stop, conditions_known}
 use Rattle.conditions.proofs.Joins.{conditions_joined}
-
-truth_small : (p : Polarity) → image_of_true p < 2
-truth_small plain = omega arith
-truth_small negated = omega arith
 
 -- false or true, on either side
 pub atom_small : (t : Target) (w : Row) → atom_row t w < 2
@@ -42,11 +39,6 @@ atom_small t w = go (acts (atom_of t) _ w.a)
     go : (b : Bool) → cond b (image_of_true (side t.negated)) (image_of_false (side t.negated)) < 2
     go true = truth_small (side t.negated)
     go false = falsity_small (side t.negated)
-
--- a frame that is the same, as five numbers
-pub lacks_framed :
-    {f g : Frame} (notes : List ℕ) (clear : Bool) (v e : ℕ) {b : Bool} → f ≡ g → b ≡ lacks f notes clear v e → b ≡ lacks g notes clear v e
-lacks_framed notes clear v e p h = rw (← p) h
 
 side_not : (b : Bool) → opposite (side b) ≡ side (not b)
 side_not true = refl
@@ -102,19 +94,17 @@ module _ {frame : Frame} {formulas effects notes : List ℕ} {t : Target} {at : 
       }
 
   pub answers_known :
-      {w : ℕ}
-      → Recalls frame notes scratch t e w
-      → 0 < w
-      → Conditions (condition_at frame formulas effects t e) frame formulas effects notes at before before scratch
-      (stepped at.rows at.twins (w - 1))
-  answers_known r h = conditions_known a (r.known formulas effects (held at before) a.noted a.effect_memo h)
+      {row : ℕ}
+      → Recalls frame notes scratch t e row
+      → Conditions (condition_at frame formulas effects t e) frame formulas effects notes at before before scratch (done_step at row)
+  answers_known r = conditions_known a (r.known formulas effects (held at before) a.noted a.effect_memo)
 
   -- a constant
   constant :
       (x : ℕ)
       → x < 2
       → condition_at frame formulas effects t e ≡ give x
-      → Conditions (condition_at frame formulas effects t e) frame formulas effects notes at before before scratch (stepped at.rows at.twins x)
+      → Conditions (condition_at frame formulas effects t e) frame formulas effects notes at before before scratch (done_step at x)
   unfolding held give
   constant x h q =
       conditions_known a
@@ -127,7 +117,7 @@ module _ {frame : Frame} {formulas effects notes : List ℕ} {t : Target} {at : 
       {x : ℕ}
       → true ≡ lacks frame notes t.clear t.variable e
       → x ≡ image_of_false (side t.negated)
-      → Conditions (condition_at frame formulas effects t e) frame formulas effects notes at before before scratch (stepped at.rows at.twins x)
+      → Conditions (condition_at frame formulas effects t e) frame formulas effects notes at before before scratch (done_step at x)
   answers_lacking h q =
       let idle = (a.noted.sets.alone formulas t.clear t.variable e a.variable a.effect (sym h)).idle t refl refl in
       rw q (constant (image_of_false (side t.negated)) (falsity_small (side t.negated)) idle)
@@ -141,21 +131,26 @@ module _ {frame : Frame} {formulas effects notes : List ℕ} {t : Target} {at : 
         {x : ℕ}
         → w.kind < 3
         → x ≡ atom_row t (row_of w)
-        → Conditions (condition_at frame formulas effects t e) frame formulas effects notes at before before scratch (stepped at.rows at.twins x)
+        → Conditions (condition_at frame formulas effects t e) frame formulas effects notes at before before scratch (done_step at x)
     answers_atom low h =
         rw (h, q)
         (constant (atom_row t (row_at effects e)) (atom_small t (row_at effects e))
         (of_atom frame formulas effects scratch a.effect_source e a.effect t (λ k. omega (arith, kind_read, low, k))
         (λ k. omega (arith, kind_read, low, k))))
 
-    pub composed : 3 ≤ w.kind → 3 ≤ (row_at effects e).kind
-    composed h = omega (arith, kind_read, h)
+    pub kind_few : w.kind < 5
+    kind_few = omega (arith, kind_read, kind_known frame formulas effects scratch a.effect_source e a.effect)
 
-    pub is_both : w.kind ≡ 3 → (row_at effects e).kind ≡ 3
-    is_both k = sym kind_read ∙ k
+    pub is_kind : {k : ℕ} → k ≡ w.kind → (row_at effects e).kind ≡ k
+    is_kind k = sym kind_read ∙ sym k
 
-    pub is_under : 3 ≤ (row_at effects e).kind → (w.kind ≡ 3 → ⊥) → (row_at effects e).kind ≡ 4
-    is_under c other = under_else frame formulas effects scratch a.effect_source e a.effect c (λ k. other (kind_read ∙ k))
+-- an effect's row that is neither both nor under a formula
+pub names_none : (k : EffectKind) → (k ≡ Both → ⊥) → (k ≡ Under → ⊥) → effect_number k < 3
+names_none Empty b u = omega arith
+names_none Set b u = omega arith
+names_none Clear b u = omega arith
+names_none Both b u = absurd (b refl)
+names_none Under b u = absurd (u refl)
 
 -- Row e is both, with the words w.
 module _ {frame : Frame} {formulas effects notes : List ℕ} {t : Target} {at : Size} {before : Store} {scratch : List ℕ} {e : ℕ}
@@ -231,17 +226,10 @@ module _ {frame : Frame} {formulas effects notes : List ℕ} {t : Target} {at : 
                 (conditions_as (rw (h, false_not t.negated) (join_with_right (side (not t.negated)) l.row))
                 (answers_standing l.row y k g left-stands))
 
-            pub both-join-asks : AsksJoin frame notes₂ e r.rows after.table l.row r.row
+            pub both-join-asks : AsksJoin frame notes₂ e (size_of r) after l.row r.row
             both-join-asks =
                 let m = y.builds.done k in
-                record {
-                  looks = looks a (y.noted k).columns;
-                  twins = r.twins;
-                  originals = after.originals;
-                  ready = m.ready;
-                  left = left-stands;
-                  right = m.below;
-                }
+                record { looks = looks a (y.noted k).columns; rows = record { ready = m.ready; left = left-stands; right = m.below } }
 
             pub both-done :
                 {notes₃ : List ℕ} {last : Store} {z : Step}
@@ -320,16 +308,12 @@ module _ {frame : Frame} {formulas effects notes : List ℕ} {t : Target} {at : 
               (conditions_stop (λ z. join (side t.negated) z s.row) (λ z. steady_join (side t.negated) z s.row) image k))
 
           module _ (k : f.full ≡ false) where
-            pub under-join-asks : AsksJoin frame notes₁ e f.rows after.table f.row s.row
+            pub under-join-asks : AsksJoin frame notes₁ e (size_of f) after f.row s.row
             under-join-asks =
                 let m = y.builds.done k in
                 record {
                   looks = looks a (x.noted g).columns;
-                  twins = f.twins;
-                  originals = after.originals;
-                  ready = m.ready;
-                  left = m.below;
-                  right = omega (arith, (x.builds.done g).below, m.grew);
+                  rows = record { ready = m.ready; left = m.below; right = omega (arith, (x.builds.done g).below, m.grew) };
                 }
 
             pub under-done :

@@ -1,8 +1,7 @@
 -- The last join of each effect row: what is read of it, and that keeping one leaves the notes right. Assumes nothing.
-use Prim.Native.Nat.{ℕ, ◌+◌, ◌-◌, ◌*◌, ◌≤◌, ◌<◌}
+use Prim.Native.Nat.{ℕ, ◌+◌, ◌*◌, ◌≤◌, ◌<◌}
 use native.Mathlib.Omega.{arith}
 use native.Mathlib.Decide.{ℕ_discrete}
-use borrow.Author.Tests.{ne_eqb}
 use mathlib.Core.Path.{◌≡◌, refl, sym, ap, ◌∙◌}
 use mathlib.Core.Bool.{Bool, false}
 use mathlib.Core.List.{List}
@@ -12,41 +11,31 @@ use lib.Dec.{eqb}
 use Rattle.task.specs.Bounded.{upto}
 use Rattle.task.specs.Table.{row_at}
 use Rattle.task.proofs.Bounded.{length_upto}
-use Rattle.normal_form.specs.Builder.{St, Got, Build, join}
+use Rattle.normal_form.specs.Builder.{St, Got, join}
 use Rattle.normal_form.proofs.Growth.{steady_join}
 use Rattle.formula_builder.specs.declared.Frame.{Frame}
-use Rattle.formula_builder.specs.declared.Size.{Size}
-use Rattle.formula_builder.specs.declared.Step.{Step}
-use Rattle.formula_builder.specs.Inner.Held.{Store, store, held, size_of, sized, stepped, side, JoinReady, Ready, Builds}
+use Rattle.formula_builder.specs.Inner.Held.{Size, Step, Store, held, size_of, done_step, side, Ready, Builds}
 use Rattle.formula_builder.proofs.Steps.{builds_done}
 use Rattle.images.specs.Inner.Images.{Known, Memo}
 use Rattle.images.proofs.Memos.{memo_grows, done_grows, done_known}
 use Rattle.atom_sets.proofs.Places.{sets_behind}
 use Rattle.conditions.specs.declared.Target.{Target}
 use Rattle.conditions.specs.Inner.Conditions.{EffectMemo, join_place, join_of, Joins, Noted, Looks, Conditions}
-use Rattle.conditions.specs.Inner.Joins.{Rejoins, KeepsJoin, AsksJoin, JoinsAs, Joined}
-use Rattle.conditions.proofs.Notes.{noted_grows, small_row, sets_stay, columns_stay, kept_stay}
+use Rattle.conditions.specs.Inner.Joins.{Rejoins, KeepsJoin, JoinsAs, Joined}
+use Rattle.conditions.proofs.Notes.{noted_grows, sets_stay, columns_stay, kept_stay}
 use Rattle.conditions.proofs.Memos.{effect_memo_grows}
-
--- nothing is kept of the two rows
-pub rejoins_none : (frame : Frame) (notes : List ℕ) (t : Target) (e l r : ℕ) → Rejoins frame notes t e l r 0
-rejoins_none frame notes t e l r =
-    record { plain = λ h. absurd (omega (arith, h)); known = λ formulas effects s n h. absurd (omega (arith, h)) }
 
 -- they were joined last
 pub rejoins_kept :
-    (frame : Frame) (notes : List ℕ) (t : Target) (e l r : ℕ)
+    (frame : Frame) (notes : List ℕ) (t : Target) (e l r x : ℕ)
     → e < frame.effects
     → t.negated ≡ false
     → get_or notes (join_place frame e) 0 ≡ l
     → get_or notes (join_place frame e + 1) 0 ≡ r
-    → Rejoins frame notes t e l r (get_or notes (join_place frame e + 2) 0)
-rejoins_kept frame notes t e l r h p first second =
-    record {
-      plain = λ _. p;
-      known = λ formulas effects s n w.
-          rw (← first, ← second) (n.joins.known e (get_or notes (join_place frame e + 2) 0 - 1) h (omega (arith, w)));
-    }
+    → get_or notes (join_place frame e + 2) 0 ≡ x + 1
+    → Rejoins frame notes t e l r x
+rejoins_kept frame notes t e l r x h p first second third =
+    record { plain = p; known = λ formulas effects s n. rw (← first, ← second) (n.joins.known e x h third) }
 
 -- The last join of row e gets rows l and r, and row x plus 1.
 abbrev pub with_join : List ℕ → ℕ → ℕ → ℕ → ℕ → List ℕ
@@ -147,18 +136,6 @@ module _ {frame : Frame} {notes : List ℕ} {e : ℕ} (a : Looks frame notes e) 
   keep_join_kept t l r x p =
       record { noted = λ formulas effects s now n. join_noted l r x (now p) n }
 
--- What the join asks, and that its row fits a word.
-module _ {frame : Frame} {notes : List ℕ} {e stand : ℕ} {table : List ℕ} {l r : ℕ} (a : AsksJoin frame notes e stand table l r) where
-  pub join_ready : JoinReady frame.rows stand table l r
-  join_ready = record { rows = a.ready.rows; two = a.ready.two; left = a.left; right = a.right }
-
-  pub join_small :
-      {m : Build ℕ} {table' : List ℕ} {stand' x : ℕ}
-      → ((w : ℕ) (o : List ℕ) → Ready frame (sized stand w) (store table o) → Builds m frame (sized stand w) (store table o) (store table' o) (stepped stand' w x))
-      → eqb x 65535 ≡ false
-      → x < 4096
-  join_small b = small_row (b a.twins a.originals a.ready)
-
 -- a plain target joins as row e does
 join_flag :
     (effects : List ℕ) (e l r : ℕ) (or : Bool) → eqb (row_at effects e).kind 3 ≡ or → join_of effects e l r ≡ join (side or) l r
@@ -166,23 +143,20 @@ join_flag effects e l r or q = rw q
 
 -- The join of rows l and r for row e.
 module _ {frame : Frame} {notes : List ℕ} {t : Target} {e : ℕ} {or : Bool} {at : Size} {l r : ℕ} {before : Store} where
-  pub joined_kept :
-      {w : ℕ} → Rejoins frame notes t e l r w → 0 < w → Joined frame notes notes t e or at l r before before (stepped at.rows at.twins (w - 1))
+  pub joined_kept : {x : ℕ} → Rejoins frame notes t e l r x → Joined frame notes notes t e or at l r before before (done_step at x)
   unfolding held
-  joined_kept {w} k h =
+  joined_kept {x} k =
       record {
         builds = λ formulas effects a.
-            let known : Known (join (side or) l r) (held at before) (w - 1) =
-            rw (join_flag effects e l r or (a.flag (k.plain h))) at (k.known formulas effects (held at before) a.noted h) in
-            let b : w - 1 < length (upto at.rows (row_at before.table)) = known.below in
-            let low : w - 1 < at.rows = rw (length_upto at.rows (row_at before.table)) at b in
-            builds_done
-            (ne_eqb (w - 1) 65535 (λ q. omega (arith, low, a.ready.rows.within, a.ready.rows.limit)))
+            let known : Known (join (side or) l r) (held at before) x =
+            rw (join_flag effects e l r or (a.flag k.plain)) at (k.known formulas effects (held at before) a.noted) in
+            let b : x < length (upto at.rows (row_at before.table)) = known.below in
+            builds_done refl
             (record {
               value = ap (λ (g : Got ℕ). g.value) known.again;
               state = ap (λ (g : Got ℕ). g.st) known.again;
               ready = a.ready;
-              below = low;
+              below = rw (length_upto at.rows (row_at before.table)) at b;
               grew = omega arith;
             });
         noted = λ formulas effects a q. a.noted;

@@ -5,3 +5,4 @@ pub mod Notes
 pub mod Memos
 pub mod Joins
 pub mod Cases
+pub mod Steps

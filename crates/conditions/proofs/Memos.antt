@@ -1,8 +1,6 @@
 -- The memo of effect conditions stays right while the state grows, and steps with both memos are put together. Assumes nothing.
-use Prim.Native.Nat.{ℕ, ◌+◌, ◌-◌, ◌*◌, ◌≤◌, ◌<◌}
+use Prim.Native.Nat.{ℕ, ◌+◌, ◌*◌, ◌≤◌, ◌<◌}
 use native.Mathlib.Omega.{arith}
-use lib.Dec.{eqb}
-use borrow.Author.Tests.{ne_eqb}
 use native.Mathlib.Decide.{ℕ_discrete}
 use mathlib.Core.Path.{◌≡◌, refl, sym, ap, ◌∙◌}
 use mathlib.Core.Bool.{true, false, cond, true≢false}
@@ -16,9 +14,7 @@ use Rattle.task.proofs.Bounded.{length_upto}
 use Rattle.normal_form.specs.Builder.{St, Got, Build, bind}
 use Rattle.normal_form.specs.Growth.{Grows, Steady}
 use Rattle.formula_builder.specs.declared.Frame.{Frame}
-use Rattle.formula_builder.specs.declared.Size.{Size}
-use Rattle.formula_builder.specs.declared.Step.{Step}
-use Rattle.formula_builder.specs.Inner.Held.{Store, held, size_of, stepped, Ready, Builds}
+use Rattle.formula_builder.specs.Inner.Held.{Size, Step, Store, held, size_of, done_step, Builds}
 use Rattle.formula_builder.proofs.Steps.{builds_done, builds_as, builds_bind, builds_stop}
 use Rattle.images.specs.Inner.Images.{Known, Memo, memo_place, Images}
 use Rattle.images.proofs.Memos.{known_grows, memo_grows, done_grows, done_known, place_within}
@@ -116,17 +112,17 @@ module _ (frame : Frame) (scratch : List ℕ) (t : Target) (e row : ℕ) (h : e 
 
 -- the memo has it, if the tag is the target's
 pub recall_row :
-    (frame : Frame) (notes scratch : List ℕ) (t : Target) (e : ℕ)
+    (frame : Frame) (notes scratch : List ℕ) (t : Target) (e row : ℕ)
     → e < frame.effects
     → get_or scratch (tag_place frame e) 0 ≡ tag t
-    → Recalls frame notes scratch t e (get_or scratch (effect_place frame e) 0)
-recall_row frame notes scratch t e h q =
-    record { known = λ formulas effects s n m w. m.known t e (get_or scratch (effect_place frame e) 0 - 1) h q (omega (arith, w)) }
+    → get_or scratch (effect_place frame e) 0 ≡ row + 1
+    → Recalls frame notes scratch t e row
+recall_row frame notes scratch t e row h q w = record { known = λ formulas effects s n m. m.known t e row h q w }
 
 -- else the notes may
 pub recall_behind :
-    {frame : Frame} {notes : List ℕ} {t : Target} {e w : ℕ} (scratch : List ℕ) → RecallsNoted frame notes t e w → Recalls frame notes scratch t e w
-recall_behind scratch r = record { known = λ formulas effects s n m w. r.known formulas effects s n w }
+    {frame : Frame} {notes : List ℕ} {t : Target} {e row : ℕ} (scratch : List ℕ) → RecallsNoted frame notes t e row → Recalls frame notes scratch t e row
+recall_behind scratch r = record { known = λ formulas effects s n m. r.known formulas effects s n }
 
 -- the tag as the machine makes it
 pub tag_made :
@@ -243,32 +239,23 @@ conditions_stop f steady x q =
       effect_memo = λ g. absurd (true≢false (sym q ∙ g));
     }
 
--- a row that stands is small, and answered as a number
-pub known_small :
-    {m : Build ℕ} {frame : Frame} {at : Size} {s : Store} {r : ℕ} → Ready frame at s → Known m (held at s) r → (r < at.rows) × (eqb r 65535 ≡ false)
-unfolding held
-known_small {at = at} {s} {r} ready k =
-    let b : r < length (upto at.rows (row_at s.table)) = k.below in
-    let low : r < at.rows = rw (length_upto at.rows (row_at s.table)) at b in
-    (low, ne_eqb r 65535 (λ q. omega (arith, low, ready.rows.within, ready.rows.limit)))
-
 -- The row of effect e's condition is known.
 pub conditions_known :
     {frame : Frame} {formulas effects notes : List ℕ} {t : Target} {at : Size} {before : Store} {scratch : List ℕ} {e r : ℕ}
     → Asks frame formulas effects notes t at before scratch e
     → Known (condition_at frame formulas effects t e) (held at before) r
-    → Conditions (condition_at frame formulas effects t e) frame formulas effects notes at before before scratch
-    (stepped at.rows at.twins r)
-conditions_known a k =
-    let small = known_small a.ready k in
+    → Conditions (condition_at frame formulas effects t e) frame formulas effects notes at before before scratch (done_step at r)
+unfolding held
+conditions_known {at = at} {before = before} {r = r} a k =
+    let b : r < length (upto at.rows (row_at before.table)) = k.below in
     record {
       builds =
-          builds_done small.1
+          builds_done refl
           (record {
             value = ap (λ (g : Got ℕ). g.value) k.again;
             state = ap (λ (g : Got ℕ). g.st) k.again;
             ready = a.ready;
-            below = small.0;
+            below = rw (length_upto at.rows (row_at before.table)) at b;
             grew = omega arith;
           });
       noted = λ _. a.noted;

@@ -10,6 +10,8 @@ use lib.ListN.{length, get_or, set, length-set}
 use lib.Seq.{get_or-set_same, get_or-set_other}
 use lib.Dec.{eqb}
 use mir.Val.{bool_byte}
+use Rattle.std.specs.Prelude.{Option, None, Some}
+use Rattle.std.specs.Option.{SomeIff, IfSome}
 use borrow.Author.Tests.{le-leb, lt-leb}
 use Rattle.task.specs.Table.{row_at}
 use Rattle.normal_form.specs.Builder.{St, Build}
@@ -17,9 +19,7 @@ use Rattle.normal_form.specs.Growth.{Grows, Steady}
 use Rattle.normal_form.proofs.Growth.{steady_join}
 use Rattle.normal_form.proofs.Steady.{steady_condition}
 use Rattle.formula_builder.specs.declared.Frame.{Frame}
-use Rattle.formula_builder.specs.declared.Size.{Size}
-use Rattle.formula_builder.specs.declared.Step.{Step}
-use Rattle.formula_builder.specs.Inner.Held.{Store, side, Builds}
+use Rattle.formula_builder.specs.Inner.Held.{Size, Step, Store, side, Builds}
 use Rattle.images.specs.Inner.Images.{Known}
 use Rattle.images.proofs.Memos.{known_grows}
 use Rattle.atom_sets.specs.Inner.Sets.{sets_end}
@@ -198,15 +198,14 @@ part_made t =
 
 -- the code's sum is the place
 pub place_sum :
-    (frame whole : Frame) (t : Target) (c k p : ℕ)
-    → whole ≡ frame
-    → k ≡ sets_end whole
+    (frame : Frame) (t : Target) (c k p : ℕ)
+    → k ≡ sets_end frame
     → p ≡ part t
     → {n : ℕ}
     → n ≡ width frame.variables
     → k + (c * (n * frame.variables) + (n * t.variable + p))
     ≡ sets_end frame + (c * (width frame.variables * frame.variables) + (width frame.variables * t.variable + part t))
-place_sum frame whole t c k p f s q w = rw (s, q, w, f) refl
+place_sum frame t c k p s q w = rw (s, q, w) refl
 
 pub place_found :
     (frame : Frame) (notes : List ℕ) (t : Target) (e k : ℕ)
@@ -219,9 +218,6 @@ pub place_found :
 unfolding column kept_place
 place_found frame notes t e k c p v q w =
     record { one = p; variable = v; has_column = omega (arith, c); place = q; within = w }
-
-pub place_none : (frame : Frame) (notes : List ℕ) (t : Target) (e : ℕ) → 0 < 0 → KeptAt frame notes t e 0
-place_none frame notes t e h = absurd (omega (arith, h))
 
 -- Two columns have no word in common, nor two atoms in one column.
 quotients : (n c d a b : ℕ) → a < n → b < n → c * n + a ≡ d * n + b → (c ≡ d) × (a ≡ b)
@@ -353,22 +349,22 @@ module _ {frame : Frame} {notes : List ℕ} {t : Target} {e k : ℕ} (h : e < fr
           joins = joins_stay (λ j g h. earlier (r + 1) j (omega (arith, sets_behind frame))) n.joins;
         }
 
-  pub recall_kept : RecallsNoted frame notes t e (get_or notes k 0)
-  recall_kept =
+  pub recall_kept : {row : ℕ} → get_or notes k 0 ≡ row + 1 → RecallsNoted frame notes t e row
+  recall_kept {row} w =
       record {
-        known = λ formulas effects s n w.
-            n.kept.known t e (get_or notes k 0 - 1) h p.variable p.one p.has_column
-            (rw p.place at p.within)
-            (ap (λ j. get_or notes j 0) (sym p.place) ∙ omega (arith, w));
+        known = λ formulas effects s n.
+            n.kept.known t e row h p.variable p.one p.has_column (rw p.place at p.within) (ap (λ j. get_or notes j 0) (sym p.place) ∙ w);
       }
 
   pub keep_kept : (row : ℕ) → KeepsNoted frame notes (set notes k (row + 1)) t e row
   keep_kept row = record { noted = λ formulas effects s now n. kept_noted formulas effects s row now n }
 
 -- The notes have no word for it.
-module _ (frame : Frame) (notes : List ℕ) (t : Target) (e : ℕ) where
-  pub recall_unkept : RecallsNoted frame notes t e 0
-  recall_unkept = record { known = λ formulas effects s n w. absurd (omega (arith, w)) }
+pub keep_unkept : (frame : Frame) (notes : List ℕ) (t : Target) (e row : ℕ) → KeepsNoted frame notes notes t e row
+keep_unkept frame notes t e row = record { noted = λ formulas effects s now n. n }
 
-  pub keep_unkept : (row : ℕ) → KeepsNoted frame notes notes t e row
-  keep_unkept row = record { noted = λ formulas effects s now n. n }
+-- a word of the memo or of the notes that is a row plus 1 tells the row, and 0 none
+pub told_row :
+    {w : ℕ} (P : ℕ → Type 0) (r : Option ℕ) → SomeIff r (1 ≤ w) (w - 1) → ((x : ℕ) → w ≡ x + 1 → P x) → IfSome r P
+told_row P None s f = tt
+told_row P (Some x) s f = f x (omega (arith, s.0, s.1))

@@ -4,6 +4,7 @@ use native.Mathlib.Omega.{arith}
 use native.Mathlib.Decide.{ℕ_discrete}
 use mathlib.Core.Path.{◌≡◌, refl, sym, ap, ◌∙◌}
 use mathlib.Core.Bool.{cond}
+use mathlib.Core.Logic.{inl, inr}
 use mathlib.Core.List.{List}
 use lib.ListN.{length, get_or}
 use Rattle.task.specs.Table.{row_at, effect_kind}
@@ -17,7 +18,7 @@ use Rattle.normal_form.specs.Builder.{Build, give, bind, join, pair, Polarity, p
 use Rattle.normal_form.specs.Conditions.{guarded, condition}
 use Rattle.formula_builder.specs.declared.Frame.{Frame}
 use Rattle.formula_builder.specs.Inner.Held.{side}
-use Rattle.formula_builder.proofs.Steps.{join_left_false, join_right_false, join_left_true, join_right_true}
+use Rattle.formula_builder.proofs.Steps.{join_false, join_left_true, join_right_true}
 use Rattle.images.specs.Inner.Images.{source_rows, tree}
 use Rattle.conditions.specs.declared.Target.{Target}
 use Rattle.conditions.specs.Inner.Conditions.{atom_of, acts, atom_row, effect_rows, effect_tree, condition_at, EffectSource}
@@ -32,14 +33,14 @@ module _ (p : Polarity) (x : ℕ) where
   join_with_left = go (ℕ_discrete x (image_of_false p))
     where
       go : Dec (x ≡ image_of_false p) → join p (image_of_true p) x ≡ give x
-      go (yes e) = join_right_false p (image_of_true p) x (true_apart p) e ∙ ap (λ (y : ℕ). give y) (sym e)
+      go (yes e) = join_false p (image_of_true p) x (inr (true_apart p, e)) ∙ ap (λ (y : ℕ). give y) (sym e)
       go (no n) = join_left_true p (image_of_true p) x (true_apart p) n refl
 
   pub join_with_right : join p x (image_of_true p) ≡ give x
   join_with_right = go (ℕ_discrete x (image_of_false p)) (ℕ_discrete x (image_of_true p))
     where
       go : Dec (x ≡ image_of_false p) → Dec (x ≡ image_of_true p) → join p x (image_of_true p) ≡ give x
-      go (yes e) d = join_left_false p x (image_of_true p) e ∙ ap (λ (y : ℕ). give y) (sym e)
+      go (yes e) d = join_false p x (image_of_true p) (inl e) ∙ ap (λ (y : ℕ). give y) (sym e)
       go (no n) (yes e) = join_left_true p x (image_of_true p) n (true_apart p) e ∙ ap (λ (y : ℕ). give y) (sym e)
       go (no n) (no k) = join_right_true p x (image_of_true p) n (true_apart p) k refl
 
@@ -108,21 +109,14 @@ module _ (frame : Frame) (formulas effects scratch : List ℕ) (source : EffectS
       rw k at rule_held in
       r
 
-  -- a row that names effects is both, or under a formula
-  pub under_else : 3 ≤ (row_at effects e).kind → ((row_at effects e).kind ≡ 3 → ⊥) → (row_at effects e).kind ≡ 4
-  under_else c other =
-      let m =
-      kind_most frame.variables frame.formulas e (row_at effects e).kind (row_at effects e).a (row_at effects e).b
-      rule_held in
-      omega (arith, c, m, other)
+  pub kind_known : (row_at effects e).kind < 5
+  kind_known =
+      omega
+      (arith, kind_most frame.variables frame.formulas e (row_at effects e).kind (row_at effects e).a (row_at effects e).b rule_held)
 
   -- one that is neither is an atom, or empty
   pub known_kind : ((row_at effects e).kind ≡ 4 → ⊥) → (row_at effects e).kind ≤ 3
-  known_kind four =
-      let m =
-      kind_most frame.variables frame.formulas e (row_at effects e).kind (row_at effects e).a (row_at effects e).b
-      rule_held in
-      omega (arith, m, four)
+  known_kind four = omega (arith, kind_known, four)
 
   module _ (t : Target) where
     node : Build ℕ

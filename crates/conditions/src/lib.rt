@@ -11,14 +11,22 @@ mod joined;
 mod kept;
 mod memo;
 
-pub use cycle::{condition, condition_if};
+use images::ImageBuilder;
 pub use kept::width_of;
 
 // The atom whose condition is built, "set" or "clear" of a variable; negated, the condition's dual. With the number first it has four bytes, and one
 // access copies it.
-#[derive(Clone, Copy)]
+#[derive(Clone, Copy, Debug, PartialEq, Eq)]
 pub struct Target {
     pub variable: u16,
     pub clear: bool,
     pub negated: bool,
+}
+
+// A builder of conditions: the source's effect words, the notes, and what builds images.
+#[derive(Drop)]
+pub struct ConditionBuilder<'e, 'n, 's, 't> {
+    pub effects: &'e [u16],
+    pub notes: &'n mut [u16],
+    pub images: ImageBuilder<'s, 't>,
 }

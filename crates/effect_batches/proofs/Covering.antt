@@ -4,7 +4,8 @@ use native.Mathlib.Omega.{arith}
 use mathlib.Core.Path.{◌≡◌}
 use mathlib.Core.Bool.{Bool, true, false}
 use mathlib.Core.List.{List}
-use lib.ListN.{get_or}
+use lib.ListN.{take, get_or}
+use lib.Seq.{length-take-le, get_or-take}
 use Rattle.task.specs.Table.{row_at, operator_at}
 use Rattle.normal_form.specs.Builder.{St, Build, bind, each, plain, opposite}
 use Rattle.normal_form.specs.Growth.{Grows, Steady}
@@ -14,8 +15,7 @@ use Rattle.normal_form.proofs.Growth.{steady_bind, steady_each}
 use Rattle.normal_form.proofs.Steady.{steady_guarded, steady_changes}
 use Rattle.normal_form.proofs.Adds.{AddsNothing, nothing_first, nothing_next, nothing_left, nothing_right, nothing_each, nothing_sets, nothing_clears}
 use Rattle.formula_builder.specs.declared.Frame.{Frame}
-use Rattle.formula_builder.specs.declared.Size.{Size}
-use Rattle.formula_builder.specs.Inner.Held.{Store, held, side}
+use Rattle.formula_builder.specs.Inner.Held.{Size, Store, held, side}
 use Rattle.images.specs.Inner.Images.{tree}
 use Rattle.conditions.specs.declared.Target.{Target}
 use Rattle.conditions.specs.Inner.Conditions.{atom_by, effect_tree, condition_at}
@@ -124,8 +124,8 @@ pub batch_fills :
     {frame : Frame} {formulas effects operators : List ℕ} {from count : ℕ} {first notes notes' list : List ℕ} {at : Size} {s : Store} {scratch : List ℕ} {b : Batch}
     → NextBatch frame formulas effects operators from count first notes at s scratch
     → BeganBatch frame effects from count first notes notes' list b
-    → Fills frame formulas effects notes' list b.rows at s scratch
-batch_fills {formulas = formulas} {list = list} {at = at} {s = s} a x =
+    → Fills frame formulas effects notes' (take b.rows list) at s scratch
+batch_fills {formulas = formulas} {list = list} {at = at} {s = s} {b = b} a x =
     record {
       stands =
           record {
@@ -136,7 +136,8 @@ batch_fills {formulas = formulas} {list = list} {at = at} {s = s} a x =
             memo = a.stands.memo;
             effect_memo = a.stands.effect_memo;
           };
-      room = x.listed.room;
       covered = λ j h.
-          covered_before a.sizes.room.rows formulas (get_or list j 0) a.comes a.covered (x.listed.each j h);
+          let listed : j < b.rows = omega (arith, h, length-take-le b.rows list x.listed.room) in
+          rw (get_or-take b.rows list j 0 listed)
+          (covered_before a.sizes.room.rows formulas (get_or list j 0) a.comes a.covered (x.listed.each j listed));
     }

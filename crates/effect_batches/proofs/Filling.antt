@@ -1,22 +1,24 @@
 -- Filling adds nothing: each condition that is called for was built. Assumes nothing.
-use Prim.Native.Nat.{ℕ, ◌<◌}
+use Prim.Native.Nat.{ℕ}
 use native.Mathlib.Omega.{arith}
 use mathlib.Core.Path.{◌≡◌, refl, sym, ap, ap₂, ◌∙◌}
-use mathlib.Core.Bool.{Bool, true, false}
+use mathlib.Core.Bool.{Bool, true, false, true≢false}
 use mathlib.Core.List.{List}
-use lib.ListN.{length, get_or}
+use lib.ListN.{length}
 use lib.Seq.{length-take-le}
 use Rattle.task.specs.Table.{row_at}
 use Rattle.task.proofs.Bounded.{length_upto}
 use Rattle.normal_form.specs.Builder.{St}
 use Rattle.formula_builder.specs.declared.Frame.{Frame}
-use Rattle.formula_builder.specs.declared.Size.{Size}
-use Rattle.formula_builder.specs.declared.Step.{Step}
-use Rattle.formula_builder.specs.Inner.Held.{Store, held, size_of, Ready, Within}
-use Rattle.atom_sets.specs.Inner.Sets.{InSet}
+use Rattle.std.specs.Prelude.{Result, Ok, Err, get_or, ◌<◌}
+use Rattle.formula_builder.specs.declared.NoRoom.{NoRoom}
+use Rattle.formula_builder.specs.Inner.Held.{Size, Step, Store, held, size_of, size_in, store_in, Ready, Within}
 use Rattle.conditions.specs.declared.Target.{Target}
-use Rattle.conditions.specs.Inner.Conditions.{condition_at, Asks, Conditions}
-use Rattle.effect_batches.specs.Inner.Filling.{Stands, FillsRow, Fills, FillsAtom, Filled}
+use Rattle.conditions.specs.declared.ConditionBuilder.{ConditionBuilder}
+use Rattle.conditions.specs.Inner.Conditions.{condition_at, condition_by, Conditions, Conditioned}
+use Rattle.conditions.proofs.Steps.{same_conditions_itself, same_conditions_twice}
+use Rattle.images.proofs.Steps.{same_images_itself}
+use Rattle.effect_batches.specs.Inner.Filling.{Covered, FillsRow, FillsRowBy, FillsAtomBy, FillsBy, Stands, Filled, FilledBy}
 
 -- What is held has so many rows and twins, which are within the frame.
 module _ {frame : Frame} {at : Size} {s : Store} (r : Ready frame at s) where
@@ -46,35 +48,13 @@ same_size x y q =
 -- what a condition asks, and the test of a set
 module _ {frame : Frame} {formulas effects notes : List ℕ} {t : Target} {at : Size} {s : Store} {scratch : List ℕ} {e : ℕ}
     (a : FillsRow frame formulas effects notes t at s scratch e) where
-  pub row_asks : Asks frame formulas effects notes t at s scratch e
-  row_asks =
-      record {
-        source = a.stands.source;
-        effect_source = a.stands.effect_source;
-        ready = a.stands.ready;
-        noted = a.stands.noted;
-        memo = a.stands.memo;
-        effect_memo = a.stands.effect_memo;
-        variable = a.variable;
-        effect = a.covered.effect;
-      }
-
-  pub row_in_set : InSet frame t.variable e
-  row_in_set =
-      record {
-        variables = omega (arith, a.stands.ready.variables);
-        limit = a.stands.effect_source.limit;
-        variable = a.variable;
-        effect = a.covered.effect;
-      }
-
   -- the step is done, and leaves the state as it was
   module _ {notes' : List ℕ} {after : Store} {scratch' : List ℕ} {r : Step} (long : length scratch' ≡ length scratch)
       (x : Conditions (condition_at frame formulas effects t e) frame formulas effects notes' at s after scratch' r) where
     same : (condition_at frame formulas effects t e (held at s)).st ≡ held at s
     same = a.covered.again t a.plain a.variable
 
-    done : r.full ≡ false
+    pub done : r.full ≡ false
     done = go r.full refl
       where
         go : (b : Bool) → r.full ≡ b → r.full ≡ false
@@ -84,7 +64,7 @@ module _ {frame : Frame} {formulas effects notes : List ℕ} {t : Target} {at : 
     kept : held (size_of r) after ≡ held at s
     kept = sym (x.builds.done done).state ∙ same
 
-    sizes : size_of r ≡ at
+    pub sizes : size_of r ≡ at
     sizes = same_size (x.builds.done done).ready a.stands.ready kept
 
     pub row_filled : Filled frame formulas effects notes' at s after scratch'
@@ -114,66 +94,86 @@ module _ {frame : Frame} {formulas effects notes : List ℕ} {t : Target} {at : 
               };
         }
 
--- Nothing is filled; one step after another.
-pub filled_none :
-    {frame : Frame} {formulas effects notes : List ℕ} {at : Size} {s : Store} {scratch : List ℕ}
-    → Stands frame formulas effects notes at s scratch
-    → Filled frame formulas effects notes at s s scratch
-filled_none x = record { state = refl; stands = x }
+-- The same of a builder of conditions: nothing is done, one row is filled, and more behind it.
+pub filled_none : (b : ConditionBuilder) → Stands b.images.builder.frame b.images.formulas.now b.effects.now b.notes.now (size_in b.images.builder) (store_in b.images.builder) b.images.scratch.now → FilledBy b b
+filled_none b a = record { filled = record { state = refl; stands = a }; size = refl; same = same_conditions_itself b }
 
-pub filled_then :
-    {frame : Frame} {formulas effects n1 n2 : List ℕ} {at : Size} {a b c : Store} {s1 s2 : List ℕ}
-    → Filled frame formulas effects n1 at a b s1
-    → Filled frame formulas effects n2 at b c s2
-    → Filled frame formulas effects n2 at a c s2
-filled_then x y = record { state = y.state ∙ x.state; stands = y.stands }
-
--- What is covered stays so.
-pub fills_then :
-    {frame : Frame} {formulas effects notes notes' list : List ℕ} {n : ℕ} {at : Size} {a b : Store} {scratch scratch' : List ℕ}
-    → Fills frame formulas effects notes list n at a scratch
-    → Filled frame formulas effects notes' at a b scratch'
-    → Fills frame formulas effects notes' list n at b scratch'
-fills_then f x = record { stands = x.stands; room = f.room; covered = λ j h. rw x.state (f.covered j h) }
-
--- what one row of the list asks
-pub row_fills :
-    {frame : Frame} {formulas effects notes notes' list : List ℕ} {n : ℕ} {t : Target} {at : Size} {a b : Store} {scratch scratch' : List ℕ} (k : ℕ)
-    → k < n
-    → FillsAtom frame formulas effects notes list n t at a scratch
-    → Filled frame formulas effects notes' at a b scratch'
-    → FillsRow frame formulas effects notes' t at b scratch' (get_or list k 0)
-row_fills k h f x =
+pub filled_row :
+    {b : ConditionBuilder} {t : Target} {e : ℕ} (d : ConditionBuilder) (r : Result ℕ NoRoom)
+    → FillsRowBy b t e
+    → Conditioned (condition_by b t e) b d r
+    → FilledBy b d
+filled_row d (Ok x) a y =
     record {
-      stands = x.stands;
-      plain = f.plain;
-      variable = f.variable;
-      covered = (fills_then f.fills x).covered k h;
+      filled = row_filled a y.same.images.scratch_length y.conditions;
+      size = sizes a y.same.images.scratch_length y.conditions;
+      same = y.same;
     }
+filled_row d (Err x) a y = absurd (true≢false (done a y.same.images.scratch_length y.conditions))
 
--- The same of a frame that is taken apart and put together again.
-pub fills_framed :
-    {frame whole : Frame} {formulas effects notes list : List ℕ} {n : ℕ} {at : Size} {s : Store} {scratch : List ℕ}
-    → whole ≡ frame
-    → Fills frame formulas effects notes list n at s scratch
-    → Fills whole formulas effects notes list n at s scratch
-fills_framed q f = rw q f
+module _ {b c : ConditionBuilder} (f : FilledBy b c) where
+  here : Stands c.images.builder.frame c.images.formulas.now c.effects.now c.notes.now (size_in c.images.builder) (store_in c.images.builder) c.images.scratch.now
+  here = rw (f.same.images.builder.frame, f.same.images.formulas, f.same.effects, f.size) f.filled.stands
 
--- what one atom asks
-pub atom_fills :
-    {frame whole : Frame} {formulas effects notes notes' list : List ℕ} {n : ℕ} {at : Size} {a b : Store} {scratch scratch' : List ℕ} (t : Target)
-    → whole ≡ frame
-    → Fills frame formulas effects notes list n at a scratch
-    → Filled whole formulas effects notes' at a b scratch'
-    → t.negated ≡ false
-    → t.variable < frame.variables
-    → FillsAtom whole formulas effects notes' list n t at b scratch'
-atom_fills t q f x plain h =
-    record { fills = fills_then (fills_framed q f) x; plain = plain; variable = rw q h }
+  held_here : held (size_in c.images.builder) (store_in c.images.builder) ≡ held (size_in b.images.builder) (store_in b.images.builder)
+  held_here = rw f.size f.filled.state
 
-pub filled_framed :
-    {frame whole : Frame} {formulas effects notes : List ℕ} {at : Size} {a b : Store} {scratch : List ℕ}
-    → whole ≡ frame
-    → Filled whole formulas effects notes at a b scratch
-    → Filled frame formulas effects notes at a b scratch
-filled_framed q x = rw q at x
+  pub filled_on : {d : ConditionBuilder} → FilledBy c d → FilledBy b d
+  filled_on {d} g =
+      record {
+        filled =
+            record {
+              state = rw f.size at g.filled.state ∙ f.filled.state;
+              stands = rw (← f.same.images.builder.frame, ← f.same.images.formulas, ← f.same.effects, ← f.size) g.filled.stands;
+            };
+        size = g.size ∙ f.size;
+        same = same_conditions_twice f.same g.same;
+      }
+
+  covered_here :
+      {e : ℕ}
+      → Covered b.images.builder.frame b.images.formulas.now b.effects.now (held (size_in b.images.builder) (store_in b.images.builder)) e
+      → Covered c.images.builder.frame c.images.formulas.now c.effects.now (held (size_in c.images.builder) (store_in c.images.builder)) e
+  covered_here a = rw (f.same.images.builder.frame, f.same.images.formulas, f.same.effects, held_here) a
+
+  pub asks_row : {list : List ℕ} {t : Target} (j : ℕ) → FillsAtomBy b list t → j < length list → FillsRowBy c t (get_or list j 0)
+  asks_row j a h =
+      record {
+        stands = here;
+        plain = a.plain;
+        variable = rw f.same.images.builder.frame a.variable;
+        covered = covered_here (a.fills.covered j h);
+      }
+
+  pub asks_atom : {list : List ℕ} (t : Target) → FillsBy b list → t.negated ≡ false → t.variable < b.images.builder.frame.variables → FillsAtomBy c list t
+  asks_atom t a plain h =
+      record {
+        fills = record { stands = here; covered = λ j l. covered_here (a.covered j l) };
+        plain = plain;
+        variable = rw f.same.images.builder.frame h;
+      }
+
+-- more behind a step that writes only notes, and leaves them right
+pub filled_notes :
+    {b c d : ConditionBuilder}
+    → c.images ≡ b.images
+    → c.effects ≡ b.effects
+    → c.notes.ghost_name ≡ b.notes.ghost_name
+    → length c.notes.now ≡ length b.notes.now
+    → Stands b.images.builder.frame b.images.formulas.now b.effects.now c.notes.now (size_in b.images.builder) (store_in b.images.builder) b.images.scratch.now
+    → FilledBy c d
+    → FilledBy b d
+filled_notes {b} {c} images effects notes long a f =
+    filled_on
+    (record {
+      filled = rw images (record { state = refl; stands = a });
+      size = rw images refl;
+      same =
+          record {
+            images = rw images (same_images_itself b.images);
+            effects = rw effects refl;
+            notes = notes;
+            notes_length = long;
+          };
+    })
+    f

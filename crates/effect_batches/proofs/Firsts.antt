@@ -2,11 +2,10 @@
 use Prim.Native.Nat.{ℕ, ◌+◌, ◌*◌, ◌≤◌, ◌<◌}
 use native.Mathlib.Omega.{arith}
 use native.Mathlib.Decide.{ℕ_discrete}
-use mathlib.Core.Path.{◌≡◌, refl, sym, ap}
-use mathlib.Core.Logic.{◌⊎◌, inl, inr, ⊎_elim}
+use mathlib.Core.Path.{◌≡◌, sym, ap, ◌∙◌}
+use mathlib.Core.Logic.{⊎_elim}
 use mathlib.Core.List.{List, []}
-use lib.ListN.{length, get_or, set, replicate, length-replicate}
-use lib.Seq.{get_or-set_same, get_or-set_other}
+use lib.ListN.{get_or, replicate, length-replicate}
 use Rattle.task.specs.Table.{Row, row_at, operator_at}
 use Rattle.formula_builder.specs.declared.Words.{Words}
 use Rattle.formula_builder.specs.declared.Frame.{Frame}
@@ -59,19 +58,8 @@ module _ {effects : List ℕ} {i : ℕ} (a : RowKept effects i) (w : Words) (q :
       go (yes k) = right k (ap (λ (r : Row). r.b) (sym q))
       go (no k) = inner (omega (arith, a.known, some, same_kind, k)) (ap (λ (r : Row). r.b) (sym q))
 
-  pub names_left : 3 ≤ w.kind → (w.kind ≡ 4 → ⊥) → Names effects i w.a
-  names_left some other = left (omega (arith, a.known, some, other, same_kind)) (ap (λ (r : Row). r.a) (sym q))
-
--- The word of row e is w now, or as it was.
-pub meets_new : (first : List ℕ) (e w : ℕ) → e < length first → Meets first (set first e w) e w
-meets_new first e w h = record { word = λ j. go j (ℕ_discrete j e) }
-  where
-    go : (j : ℕ) → Dec (j ≡ e) → (get_or (set first e w) j 0 ≡ get_or first j 0) ⊎ ((j ≡ e) × (get_or (set first e w) j 0 ≡ w))
-    go j (yes q) = inr (q, rw q (get_or-set_same first e w 0 h))
-    go j (no q) = inl (get_or-set_other first e j w 0 q)
-
-pub meets_old : (first : List ℕ) (e w : ℕ) → Meets first first e w
-meets_old first e w = record { word = λ j. inl refl }
+  pub names_left : w.kind ≡ 3 → Names effects i w.a
+  names_left both = left (same_kind ∙ both) (ap (λ (r : Row). r.a) (sym q))
 
 -- A row met with a word that is right has a word that is right.
 pub first_met :

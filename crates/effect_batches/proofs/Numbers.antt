@@ -1,11 +1,12 @@
 -- Columns stay apart while rows get the next ones; what is behind them stays. Assumes nothing.
-use Prim.Native.Nat.{ℕ, zero, suc, ◌+◌, ◌*◌, ◌≤◌, ◌<◌}
+use Prim.Native.Nat.{ℕ, ◌+◌, ◌-◌, ◌*◌, ◌≤◌, ◌<◌}
 use native.Mathlib.Omega.{arith}
-use native.Mathlib.Decide.{ℕ_discrete, dec_lt}
-use mathlib.Core.Path.{◌≡◌, refl, sym, ◌∙◌}
-use mathlib.Core.List.{List, [], ◌∷◌}
-use lib.ListN.{length, get_or, set, length-set}
-use lib.Seq.{get_or-set_same, get_or-set_other}
+use native.Mathlib.Decide.{ℕ_discrete}
+use mathlib.Core.Path.{◌≡◌, refl, sym, ap, ◌∙◌}
+use mathlib.Core.List.{List, ◌++◌}
+use lib.ListN.{length, take, drop, get_or, set, replicate, length-replicate, length-append, length-drop, get_or-append}
+use lib.Seq.{get_or-set_same, get_or-set_other, length-take-le, get_or-append_right}
+use Rattle.std.proofs.lemmas.List.{get_or-replicate, get_or-drop}
 use Rattle.task.specs.Table.{operator_at}
 use Rattle.normal_form.specs.Builder.{St}
 use Rattle.formula_builder.specs.declared.Frame.{Frame}
@@ -15,41 +16,10 @@ use Rattle.conditions.specs.declared.Target.{Target}
 use Rattle.conditions.specs.Inner.Conditions.{column, part, width, kept_place, Noted}
 use Rattle.conditions.proofs.Notes.{sets_stay, joins_stay}
 use Rattle.effect_batches.specs.Inner.Firsts.{Roots, Names}
-use Rattle.effect_batches.specs.Inner.Numbers.{Numbers, Numbered, NamesRow, NamesBelow, NamesRoots, Room, Renumbered, Cleared, Forgets, Forgot, Before, Listed, Lists, BeginsBatch}
+use Rattle.effect_batches.specs.Inner.Numbers.{Numbers, Numbered, NamesRow, NamesBelow, NamesRoots, Room, Renumbered, Forgets, Forgot, Lists, BeginsBatch}
 use Rattle.effect_batches.proofs.Firsts.{row_kept}
 
--- Words are cleared one after another.
-pub cleared_none : (from : ℕ) (notes : List ℕ) → Cleared from from notes notes
-cleared_none from notes =
-    record { zero = λ j g h. absurd (omega arith); ahead = λ j h. refl; behind = λ j h. refl }
-
-pub cleared_more :
-    {from i : ℕ} {first notes : List ℕ}
-    → from ≤ i
-    → i < length notes
-    → Cleared from i first notes
-    → Cleared from (i + 1) first (set notes i 0)
-cleared_more {from} {i} {first} {notes} low here x =
-    record {
-      zero = λ j g h. go j g h (ℕ_discrete j i);
-      ahead = λ j h. get_or-set_other notes i j 0 0 (λ q. omega (arith, q)) ∙ x.ahead j h;
-      behind = λ j h. get_or-set_other notes i j 0 0 (λ q. omega (arith, q)) ∙ x.behind j (omega arith);
-    }
-  where
-    go : (j : ℕ) → from ≤ j → j < i + 1 → Dec (j ≡ i) → get_or (set notes i 0) j 0 ≡ 0
-    go j g h (yes q) = rw q (get_or-set_same notes i 0 0 here)
-    go j g h (no q) = get_or-set_other notes i j 0 0 q ∙ x.zero j g (omega (arith, q))
-
--- None has a column, and then rows get the next ones.
-pub numbers_none :
-    {n : ℕ} {first notes : List ℕ} → Cleared 0 n first notes → Numbers n notes 0
-unfolding column
-numbers_none x =
-    record {
-      within = λ e h. rw (x.zero e (omega arith) h) (omega arith);
-      apart = λ d e g h c q. absurd (omega (arith, c, x.zero e (omega arith) h));
-    }
-
+-- Rows get the next columns.
 pub numbered_none : (n most last : ℕ) (notes : List ℕ) → Numbered n most last notes notes last
 numbered_none n most last notes = record { numbers = λ n. n; once = omega arith; behind = λ j h. refl }
 
@@ -115,30 +85,45 @@ numbered_then few x y =
 pub numbered_more : {rows m more last r : ℕ} {a b : List ℕ} → m ≤ more → Numbered rows m last a b r → Numbered rows more last a b r
 numbered_more few x = record { numbers = x.numbers; once = omega (arith, x.once); behind = x.behind }
 
--- all anew
-pub renumbered :
-    {rows more r : ℕ} {a b c : List ℕ} → Cleared 0 rows a b → Numbered rows more 0 b c r → Renumbered rows a c r
-renumbered x y =
-    record { numbers = y.numbers (numbers_none x); behind = λ j h. y.behind j h ∙ x.behind j h }
+-- all anew: the columns are cleared, so none has one
+pub cleared_front :
+    (notes : List ℕ) {n : ℕ} {front : List ℕ}
+    → n ≤ length notes
+    → front ≡ replicate (length (take n notes)) 0
+    → (length (front ++ drop n notes) ≡ length notes) × Renumbered n notes (front ++ drop n notes) 0
+unfolding column
+cleared_front notes {n} {front} room zeros = (
+  long,
+  record {
+    numbers =
+        record {
+          within = λ e h. omega (arith, none e h);
+          apart = λ d e g h c q. absurd (omega (arith, none e h, c));
+        };
+    behind = behind;
+  },
+)
+  where
+    short : length front ≡ n
+    short = ap length zeros ∙ length-replicate (length (take n notes)) 0 ∙ length-take-le n notes room
+
+    long : length (front ++ drop n notes) ≡ length notes
+    long = omega (arith, length-append front (drop n notes), length-drop n notes, short)
+
+    none : (e : ℕ) → e < n → get_or (front ++ drop n notes) e 0 ≡ 0
+    none e h =
+        get_or-append front (drop n notes) 0 e (omega (arith, short))
+        ∙ rw zeros (get_or-replicate (length (take n notes)) e 0 0 (omega (arith, length-take-le n notes room)))
+
+    behind : (j : ℕ) → n ≤ j → get_or (front ++ drop n notes) j 0 ≡ get_or notes j 0
+    behind j h =
+        let there : n + (j - length front) ≡ j = omega (arith, short) in
+        get_or-append_right front (drop n notes) j 0 (omega (arith, short)) ∙ get_or-drop n notes (j - length front) 0
+        ∙ ap (λ (i : ℕ). get_or notes i 0) there
 
 pub renumbered_then :
     {rows more last r : ℕ} {a b c : List ℕ} → Renumbered rows a b last → Numbered rows more last b c r → Renumbered rows a c r
 renumbered_then x y = record { numbers = y.numbers x.numbers; behind = λ j h. y.behind j h ∙ x.behind j h }
-
-pub renumbered_again :
-    {rows last r : ℕ} {a b c : List ℕ} → Renumbered rows a b last → Renumbered rows b c r → Renumbered rows a c r
-renumbered_again x y = record { numbers = y.numbers; behind = λ j h. y.behind j h ∙ x.behind j h }
-
-pub renumbered_here : {rows r : ℕ} {a b : List ℕ} → Renumbered rows a b r → Renumbered rows b b r
-renumbered_here x = record { numbers = x.numbers; behind = λ j h. refl }
-
--- there is room after a pass, too
-pub room_then :
-    {frame : Frame} {effects first notes notes' : List ℕ}
-    → length notes' ≡ length notes
-    → Room frame effects first notes
-    → Room frame effects first notes'
-room_then long r = record { rows = r.rows; words = r.words; behind = omega (arith, r.behind, long) }
 
 -- the words of columns are among the notes
 pub column_room : {frame : Frame} {effects first notes : List ℕ} → Room frame effects first notes → frame.effects ≤ length notes
@@ -152,35 +137,6 @@ pub roots_room :
     → NamesRoots frame.effects effects operators first notes count
 roots_room r k =
     record { words = r.rows.words; effect = r.words; within = column_room r; roots = k }
-
--- more rows, or fewer operators
-pub roots_wider : {n m : ℕ} {operators : List ℕ} {count : ℕ} → n ≤ m → Roots n operators count → Roots m operators count
-roots_wider h r =
-    record { limit = r.limit; words = r.words; effect = λ k g. omega (arith, r.effect k g) }
-
-pub roots_fewer : {n : ℕ} {operators : List ℕ} {few count : ℕ} → few ≤ count → Roots n operators count → Roots n operators few
-roots_fewer h r =
-    record { limit = omega (arith, r.limit); words = omega (arith, r.words); effect = λ k g. r.effect k (omega (arith, g)) }
-
--- Rows are listed one after another.
-pub listed_none : {first : List ℕ} {from rows : ℕ} (list : List ℕ) → Listed rows first from list 0
-listed_none list = record { room = omega arith; each = λ j h. absurd (omega arith) }
-
-pub listed_next :
-    {first : List ℕ} {rows from n e : ℕ} {list : List ℕ}
-    → n < length list
-    → Before rows first from e
-    → Listed rows first from list n
-    → Listed rows first from (set list n e) (n + 1)
-listed_next {first} {rows} {from} {n} {e} {list} there b x =
-    record {
-      room = omega (arith, length-set list n e);
-      each = λ j h. go j h (ℕ_discrete j n);
-    }
-  where
-    go : (j : ℕ) → j < n + 1 → Dec (j ≡ n) → Before rows first from (get_or (set list n e) j 0)
-    go j h (yes q) = rw (q, get_or-set_same list n e 0 there) b
-    go j h (no q) = rw (get_or-set_other list n j e 0 q) (x.each j (omega (arith, q)))
 
 -- a kept condition stands behind the sets
 ahead : (a b : ℕ) → a ≤ a + b
@@ -256,37 +212,6 @@ below_asks {i = i} r long h few =
 -- the effect of operator k is one of the rows
 pub root_below : {n : ℕ} {operators : List ℕ} {count : ℕ} (k e : ℕ) → Roots n operators count → k < count → e ≡ (operator_at operators k).effect → e < n
 root_below k e a h q = omega (arith, a.effect k h, q)
-
--- what it asks
-pub root_asks :
-    {n : ℕ} {effects operators first notes notes' : List ℕ} {count last : ℕ} (k e : ℕ)
-    → NamesRoots n effects operators first notes count
-    → k < count
-    → e ≡ (operator_at operators k).effect
-    → length notes' ≡ length notes
-    → last < 65535
-    → NamesRow effects first notes' e last
-root_asks k e a h q long few =
-    let low = root_below k e a.roots h q in
-    record {
-      words = omega (arith, a.words, low);
-      effect = omega (arith, a.effect, low);
-      within = omega (arith, a.within, low, long);
-      few = few;
-    }
-
--- Behind the last word there is nothing.
-past : (l : List ℕ) (j : ℕ) → length l ≤ j → get_or l j 0 ≡ 0
-past [] j h = refl
-past (x ∷ l) zero h = absurd (omega arith)
-past (x ∷ l) (suc j) h = past l j (omega arith)
-
-pub forgot : {k n : ℕ} {a b : List ℕ} → length b ≡ n → Cleared k n a b → Forgot k a b
-forgot {k} {n} {a} {b} long x = record { blank = λ j h. go j h (dec_lt j n); ahead = x.ahead }
-  where
-    go : (j : ℕ) → k ≤ j → Dec (j < n) → get_or b j 0 ≡ 0
-    go j h (yes l) = x.zero j h l
-    go j h (no l) = past b j (omega (arith, long, l))
 
 -- What forgetting and listing ask, once the columns are given.
 pub forgets :

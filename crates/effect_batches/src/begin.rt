@@ -2,7 +2,7 @@
 ghost use Rattle.std.specs.Prelude.{◌≡◌, true, ℕ, ◌≤◌, ◌<◌};
 ghost use Rattle.effect_batches.specs.Inner.Numbers.{Sizes, Sized, Forgets, Forgot, ListsRow, ListedRow, Lists, Listed, BeginsBatch, BeganBatch};
 
-use crate::number::{clear_between, number_batch};
+use crate::number::number_batch;
 use crate::{Batch, MOST_ROWS};
 use atom_sets::sets_end;
 use conditions::width_of;
@@ -13,25 +13,11 @@ fn most_columns(variables: usize, room: usize) -> usize {
     if variables == 0 {
         return MOST_ROWS;
     }
-    let places = room / width_of(variables) / variables;
-    if places == 0 {
-        return 0;
-    }
-    places - 1
+    (room / width_of(variables) / variables).saturating_sub(1)
 }
 
-// Whether a batch of so many operators is to be halved: there is no room for its columns, and it has two operators or more.
-fn halved(columns: u16, most: usize, size: usize) -> bool
-    ensures { result ≡ true → 2 ≤ size }
-{
-    if size < 2 {
-        return false;
-    }
-    most < columns as usize
-}
-
-// All operators from one on to the last, else half as many, and so on, until there is room for their columns: these are given. Answers how
-// many operators. At most nine times the passes of number_batch.
+// All operators from one on to the last, else half as many, and so on, until there is room for their columns, or one is left: these are given.
+// Answers how many operators. At most nine times the passes of number_batch.
 fn size_batch(
     effects: &[u16],
     operators: &[u16],
@@ -47,8 +33,8 @@ fn size_batch(
 {
     let mut size = count - from;
     let mut columns = number_batch(effects, operators, from, size, first, frame, notes);
-    while halved(columns, most, size) {
-        size = size / 2;
+    while 2 <= size && most < columns as usize {
+        size /= 2;
         columns = number_batch(effects, operators, from, size, first, frame, notes);
     }
     size
@@ -59,11 +45,9 @@ fn forget(from: usize, k: usize, notes: &mut [u16])
     requires { Forgets from k notes.old }
     ensures { Forgot k notes.old notes.new }
 {
-    if from == 0 {
-        return;
+    if from != 0 {
+        notes[k..].fill(0);
     }
-    let n = notes.len();
-    clear_between(notes, k, n);
 }
 
 // Row e is listed behind k rows if it has one of the columns that there is room for, and an operator before operator `from` came to it. Answers
@@ -80,18 +64,9 @@ fn list_row(
     requires { ListsRow first.now notes.now e k list.old }
     ensures { (n : ℕ) → e < n → ListedRow n first.now from k list.old list.new result }
 {
-    let w = first[e] as usize;
-    if w == 0 {
-        return k;
-    }
-    if from < w {
-        return k;
-    }
-    let c = notes[e] as usize;
-    if c == 0 {
-        return k;
-    }
-    if most < c {
+    let w = first[e];
+    let column = notes[e];
+    if w == 0 || from < w as usize || column == 0 || most < column as usize {
         return k;
     }
     list[k] = e as u16;
@@ -111,10 +86,8 @@ fn list_rows(
     ensures { Listed rows first.now from list.new result }
 {
     let mut k = 0;
-    let mut e = 0;
-    while e < rows {
+    for e in 0..rows {
         k = list_row(first, e, from, most, notes, k, list);
-        e += 1;
     }
     k
 }

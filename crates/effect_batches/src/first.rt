@@ -2,19 +2,13 @@
 ghost use Rattle.std.specs.Prelude.{List, ℕ, ◌<◌, length};
 ghost use Rattle.effect_batches.specs.Inner.Firsts.{First, Meets, MeetsRoots, HandsOn, HandedOn, FindsFirst};
 
-use crate::{BOTH, UNDER};
 use formula_builder::{Frame, read_row};
-use task::operator_rows::effect_of;
+use task::kinds::EffectKind;
+use task::operator_rows::operator_at;
 
 // Whether word w names an operator before the one that the word old names.
 fn sooner(w: u16, old: u16) -> bool {
-    if w == 0 {
-        return false;
-    }
-    if old == 0 {
-        return true;
-    }
-    w < old
+    w != 0 && (old == 0 || w < old)
 }
 
 // A referrer with the word w names row e.
@@ -32,11 +26,9 @@ fn meet_roots(operators: &[u16], count: usize, first: &mut [u16])
     requires { MeetsRoots operators.now count first.old }
     ensures { (effects : List ℕ) → First effects operators.now count first.new }
 {
-    let mut k = 0;
-    while k < count {
-        let e = effect_of(operators, k);
-        meet(first, e as usize, (k + 1) as u16);
-        k += 1;
+    for k in 0..count {
+        let operator = operator_at(operators, k);
+        meet(first, operator.effect as usize, (k + 1) as u16);
     }
 }
 
@@ -47,14 +39,14 @@ fn hand_on(effects: &[u16], i: usize, first: &mut [u16])
 {
     let w = first[i];
     let r = read_row(effects, i);
-    if r.kind < BOTH {
-        return;
+    match EffectKind::try_from(r.kind) {
+        Ok(EffectKind::Both) => {
+            meet(first, r.b as usize, w);
+            meet(first, r.a as usize, w);
+        }
+        Ok(EffectKind::Under) => meet(first, r.b as usize, w),
+        _ => {}
     }
-    meet(first, r.b as usize, w);
-    if r.kind == UNDER {
-        return;
-    }
-    meet(first, r.a as usize, w);
 }
 
 // The words of all rows, which are 0 before: one pass over the operators, then one over the effects, downwards, since the rows that a row
@@ -64,9 +56,7 @@ pub fn find_first(effects: &[u16], operators: &[u16], count: usize, frame: Frame
     ensures { First effects.now operators.now count first.new }
 {
     meet_roots(operators, count, first);
-    let mut i = frame.effects;
-    while 0 < i {
-        i -= 1;
+    for i in (0..frame.effects).rev() {
         hand_on(effects, i, first);
     }
 }

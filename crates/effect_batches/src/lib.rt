@@ -18,6 +18,8 @@
 //     notes    columns (E) | last joins (3 E) | sets | kept conditions    word e of the columns is the number of row e, 0 for none
 //     first    E words     | the first operator that comes to row e, plus 1; 0, if none does
 //     list     E words     | the rows with a column that operators before the batch came to, upwards
+//
+// Both zeros stand in words of tables, 2 bytes a row, so neither is an Option.
 #![tactic(auto)]
 
 mod begin;
@@ -29,16 +31,11 @@ mod number;
 pub use first::find_first;
 pub use next::next_batch;
 
-// Kinds of effect rows: both of two effects, an effect under a formula. Those below are empty or atoms.
-const BOTH: u16 = 3;
-
-const UNDER: u16 = 4;
-
 // As many effect rows as there can be.
 pub const MOST_ROWS: usize = 4096;
 
 // A batch: where it ends, and how many rows are to be filled.
-#[derive(Clone, Copy)]
+#[derive(Clone, Copy, Debug, PartialEq, Eq)]
 pub struct Batch {
     pub end: usize,
     pub rows: usize,

@@ -1,38 +1,30 @@
 // The columns of one batch: a number of its own for each entry, in word e of the notes for row e.
 ghost use Rattle.std.specs.Prelude.{ℕ, ◌+◌, ◌*◌, ◌≤◌, ◌<◌, length};
 ghost use Rattle.effect_batches.specs.Inner.Firsts.{Roots};
-ghost use Rattle.effect_batches.specs.Inner.Numbers.{Room, Numbered, NamesRow, NamesBelow, NamesRoots, Renumbered, Cleared};
+ghost use Rattle.effect_batches.specs.Inner.Numbers.{Room, Numbered, NamesRow, NamesBelow, NamesRoots, Renumbered};
 
-use crate::{BOTH, UNDER};
 use formula_builder::{Frame, read_row};
-use task::operator_rows::effect_of;
+use task::kinds::EffectKind;
+use task::operator_rows::operator_at;
 
-// The words of notes from one on to another become 0. Linear.
-pub fn clear_between(notes: &mut [u16], from: usize, to: usize)
-    requires { (from ≤ to) × (to ≤ length notes.old) }
-    ensures { Cleared from to notes.old notes.new }
+// Whether row e is an atom, or empty, and so names no other row.
+fn leaf(effects: &[u16], e: usize) -> bool
+    requires { 3 * e + 3 ≤ length effects.now }
 {
-    let mut i = from;
-    while i < to {
-        notes[i] = 0;
-        i += 1;
-    }
+    let kind = read_row(effects, e).kind;
+    !matches!(
+        EffectKind::try_from(kind),
+        Ok(EffectKind::Both | EffectKind::Under)
+    )
 }
 
 // Row e, which the operator of word w or a row first come to by it names: it gets the next column if an earlier operator came to it, unless
-// it has one, or is an atom. Answers the last column given.
+// it has one, or is a leaf. Answers the last column given.
 fn name(effects: &[u16], first: &[u16], e: usize, w: u16, last: u16, notes: &mut [u16]) -> u16
     requires { NamesRow effects.now first.now notes.old e last }
     ensures { (n : ℕ) → e < n → Numbered n 1 last notes.old notes.new result }
 {
-    if w <= first[e] {
-        return last;
-    }
-    if notes[e] != 0 {
-        return last;
-    }
-    let r = read_row(effects, e);
-    if r.kind < BOTH {
+    if w <= first[e] || notes[e] != 0 || leaf(effects, e) {
         return last;
     }
     notes[e] = last + 1;
@@ -53,14 +45,18 @@ fn name_roots(
     requires { NamesRoots rows effects.now operators.now first.now notes.old (from + size) }
     ensures { Renumbered rows notes.old notes.new result × (result ≤ size) }
 {
-    clear_between(notes, 0, rows);
+    notes[..rows].fill(0);
     let mut last = 0;
-    let mut k = 0;
-    while k < size {
-        let o = from + k;
-        let e = effect_of(operators, o);
-        last = name(effects, first, e as usize, (o + 1) as u16, last, notes);
-        k += 1;
+    for o in from..from + size {
+        let operator = operator_at(operators, o);
+        last = name(
+            effects,
+            first,
+            operator.effect as usize,
+            (o + 1) as u16,
+            last,
+            notes,
+        );
     }
     last
 }
@@ -79,21 +75,18 @@ fn name_below(
     ensures { (n : ℕ) → i < n → Numbered n 2 last notes.old notes.new result }
 {
     let w = first[i];
-    if w as usize <= from {
-        return last;
-    }
-    if size < w as usize - from {
+    if w as usize <= from || size < w as usize - from {
         return last;
     }
     let r = read_row(effects, i);
-    if r.kind < BOTH {
-        return last;
+    match EffectKind::try_from(r.kind) {
+        Ok(EffectKind::Both) => {
+            let right = name(effects, first, r.b as usize, w, last, notes);
+            name(effects, first, r.a as usize, w, right, notes)
+        }
+        Ok(EffectKind::Under) => name(effects, first, r.b as usize, w, last, notes),
+        _ => last,
     }
-    let right = name(effects, first, r.b as usize, w, last, notes);
-    if r.kind == UNDER {
-        return right;
-    }
-    name(effects, first, r.a as usize, w, right, notes)
 }
 
 // The rows that rows name to which one of so many operators from one on came first. As many steps as there are effects, two rows each.
@@ -110,10 +103,8 @@ fn name_rows(
     ensures { Numbered frame.effects (2 * frame.effects) given notes.old notes.new result }
 {
     let mut last = given;
-    let mut i = 0;
-    while i < frame.effects {
+    for i in 0..frame.effects {
         last = name_below(effects, i, from, size, first, last, notes);
-        i += 1;
     }
     last
 }

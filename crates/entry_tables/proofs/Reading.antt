@@ -6,21 +6,26 @@ use mathlib.Core.Bool.{Bool, true, false}
 use mathlib.Core.List.{List}
 use lib.ListN.{length, replicate}
 use borrow.Author.Tests.{le-leb}
+use Rattle.std.specs.Prelude.{Result, Ok, Err}
+use Rattle.std.specs.Result.{IsErrAnd}
 use Rattle.task.specs.declared.Head.{Head}
+use Rattle.task.specs.declared.refusal.Refusal.{Refusal}
+use Rattle.task.specs.declared.tables.Tables.{Tables}
+use Rattle.task.specs.declared.refusal.Refusal.TheVariants as r
+use Rattle.task.specs.Refused.{number_of, told}
 use Rattle.task.specs.Table.{Lent, Task, lent, task_of, operator_width}
 use Rattle.task.specs.Check.{counts_kept, goal_kept, refusal}
 use Rattle.task.specs.Words.{head_of, words_of, operator_words, padded}
 use Rattle.task.proofs.Bounded.{and_both}
 use Rattle.task.proofs.Words.{lent_in, task_in, kept_in}
 use Rattle.task.proofs.Passed.{counts_tested}
-use Rattle.task_file.specs.declared.ReadAnswer.{ReadAnswer}
-use Rattle.task_file.specs.declared.ReadAnswer.TheVariants.{Read, Refused}
 use Rattle.file_format.specs.Parse.{Parsed, parsed, unparsed, next, kept}
 use Rattle.file_format.specs.Reading.{Lengths, room, head_read, head_kept, Verdict, accepted, rejected, at_end, task_read, reading}
-use Rattle.task_file.specs.Outcome.{ReadOutcome, outcome_of, read_left, read_outcome}
+use Rattle.task_file.specs.Outcome.{ReadAnswer, Read, Refused, ReadOutcome, outcome_of, read_left, read_outcome}
 use Rattle.file_format.proofs.Parse.{Bytes}
 use Rattle.file_format.proofs.RoundTrip.{Accepted, written_read}
 use Rattle.entry_tables.specs.Own.{own}
+use Rattle.entry_tables.specs.Inner.Answers.{ReadInto}
 
 -- Own tables have room for every head that keeps the limits.
 pub limits_room : (h : Head) → counts_kept h ≡ true → room own h ≡ true
@@ -121,3 +126,41 @@ module _ (m : Lengths) (file : List ℕ) {r : ReadAnswer} {i' w' f' e' o' : List
           let h : Refused n ≡ Refused k = sym q ∙ ap (λ (y : ReadOutcome). y.answer) s in
           let g : k ≡ n = cc in
           x ∙ ap rejected g
+
+-- a refusal that `?` returns onward
+pub refused_onward : (m : Lengths) (file : List ℕ) (r : Result Tables Refusal) (e : Refusal) → IsErrAnd r (λ x. x ≡ e) → reading m file ≡ rejected (number_of e) → ReadInto m file r
+refused_onward m file (Ok t) e given is = absurd given
+refused_onward m file (Err x) e given is = is ∙ ap (λ (y : Refusal). rejected (number_of y)) (sym given)
+
+-- only one refusal has the number 5
+five_short : (e : Refusal) → number_of e ≡ 5 → e ≡ r.ShortTable
+five_short r.CutShort h = cc
+five_short r.SpareBit h = cc
+five_short r.NeedlessField h = cc
+five_short r.BytesBehind h = cc
+five_short r.ShortTable h = refl
+five_short r.Counts h = cc
+five_short r.Goal h = cc
+five_short r.InitialByte h = cc
+five_short r.Twin h = cc
+five_short r.Formula h = cc
+five_short r.Effect h = cc
+five_short r.Operator h = cc
+five_short r.SourceTwins h = cc
+five_short r.ShortScratch h = cc
+five_short r.NoRoom h = cc
+five_short r.State h = cc
+five_short r.NoOperator h = cc
+five_short r.NotApplicable h = cc
+five_short r.LongSequence h = cc
+five_short r.ShortOutput h = cc
+five_short r.ManyVariables h = cc
+five_short r.NoPlan h = cc
+five_short r.LongPlan h = cc
+five_short r.Percent h = cc
+five_short r.ValueCount h = cc
+five_short r.Value h = cc
+
+pub not_five : {A : Type 0} (answer : Result A Refusal) → (answer ≡ Err r.ShortTable → ⊥) → told answer ≡ 5 → ⊥
+not_five (Ok x) other h = omega arith
+not_five (Err e) other h = other (ap Err (five_short e h))

@@ -3,11 +3,21 @@ use Prim.Native.Nat.{ℕ, zero, suc, ◌+◌, ◌-◌, ◌*◌, ◌/◌, ◌%◌
 use native.Mathlib.Nat.{add-zero, add-suc}
 use native.Mathlib.Omega.{arith}
 use mathlib.Core.Path.{◌≡◌, refl, sym, ap, ◌∙◌}
-use mathlib.Core.Bool.{true, false, cond, not}
+use mathlib.Core.Bool.{true, false, cond}
+use mathlib.Core.Logic.{◌⊎◌, inl, inr}
 use mathlib.Core.List.{List, [], ◌∷◌}
 use lib.ListN.{length, get_or, set, drop, length-set}
 use lib.Seq.{drop-drop, drop-set-lt}
 use lib.Dec.{eqb}
+use Rattle.std.specs.Prelude.{Result, Ok, Err}
+use Rattle.std.specs.Result.{IsOk}
+use Rattle.task.specs.declared.Table.TheVariants.{Formulas}
+use Rattle.task.specs.declared.TableRow.{TableRow}
+use Rattle.task.specs.declared.kinds.FormulaKind.{FormulaKind as Kind}
+use Rattle.task.specs.declared.kinds.FormulaKind.TheVariants as k
+use Rattle.task.specs.declared.kinds.UnknownKind.{UnknownKind}
+use Rattle.task.specs.Kinds.{formula_number, FormulaKindOf}
+use Rattle.task.specs.Inner.Tables.{words_at}
 use Rattle.task.specs.Bounded.{upto}
 use Rattle.task.specs.Table.{FormulaKind, row_at, formula_kind}
 use Rattle.task.specs.Rules.{no_row, FormulaRule}
@@ -28,10 +38,6 @@ by_bit P (suc n) h no-bit one_bit = one_bit (omega arith)
 pub bit_told : (x : ℕ) → x ≤ 1 → x ≡ bit (eqb x 1)
 unfolding bit
 bit_told x h = by_bit (x ≡ cond (eqb x 1) 1 0) x h (λ e. rw e) (λ e. rw e)
-
-pub bit_not : (x : ℕ) → x ≤ 1 → 1 - x ≡ bit (not (eqb x 1))
-unfolding bit
-bit_not x h = by_bit (1 - x ≡ cond (not (eqb x 1)) 1 0) x h (λ e. rw e) (λ e. rw e)
 
 all_small :
     (k : FormulaKind)
@@ -55,91 +61,90 @@ table_tells k n zero (suc (suc y)) e hx hy = absurd (omega arith)
 table_tells k n (suc zero) (suc (suc y)) e hx hy = absurd (omega arith)
 table_tells k n (suc (suc x)) y e hx hy = absurd (omega arith)
 
--- the kinds behind "not" that keep a rule name two formulas
-rule_joins :
-    (v i n a b : ℕ)
-    → FormulaRule v i (formula_kind n) a b
-    → (n ≡ 0 → ⊥)
-    → (n ≡ 1 → ⊥)
-    → (n ≡ 2 → ⊥)
-    → (n ≡ 3 → ⊥)
-    → (4 ≤ n) × (n < 8) × (a < i) × (b < i)
+-- the kinds that name no formula and no variable, and those that name formulas
+abbrev pub Constant : Kind → Type 0
+Constant kind = (kind ≡ k.False) ⊎ (kind ≡ k.True)
+
+abbrev pub Joining : Kind → Type 0
+Joining kind = (kind ≡ k.Not) ⊎ ((kind ≡ k.And) ⊎ ((kind ≡ k.Or) ⊎ ((kind ≡ k.Implies) ⊎ (kind ≡ k.Equivalent))))
+
+-- a row that keeps its rule is of a known kind
+no_rule : (v i a b n : ℕ) → 8 ≤ n → FormulaRule v i (formula_kind n) a b → ⊥
 unfolding formula_kind
-rule_joins v i zero a b r d0 d1 d2 d3 = absurd (d0 refl)
-rule_joins v i (suc zero) a b r d0 d1 d2 d3 = absurd (d1 refl)
-rule_joins v i (suc (suc zero)) a b r d0 d1 d2 d3 = absurd (d2 refl)
-rule_joins v i (suc (suc (suc zero))) a b r d0 d1 d2 d3 = absurd (d3 refl)
-rule_joins v i (suc (suc (suc (suc zero)))) a b r d0 d1 d2 d3 = (omega arith, omega arith, r.0, r.1)
-rule_joins v i (suc (suc (suc (suc (suc zero))))) a b r d0 d1 d2 d3 = (omega arith, omega arith, r.0, r.1)
-rule_joins v i (suc (suc (suc (suc (suc (suc zero)))))) a b r d0 d1 d2 d3 = (omega arith, omega arith, r.0, r.1)
-rule_joins v i (suc (suc (suc (suc (suc (suc (suc zero))))))) a b r d0 d1 d2 d3 = (omega arith, omega arith, r.0, r.1)
-rule_joins v i (suc (suc (suc (suc (suc (suc (suc (suc n)))))))) a b r d0 d1 d2 d3 = absurd r
+no_rule v i a b n h rule =
+    let m : n ≡ suc (suc (suc (suc (suc (suc (suc (suc (n - 8)))))))) = omega arith in
+    rw m at rule
 
-join_value :
-    (s values : List ℕ) (n a b : ℕ)
-    → 4 ≤ n
-    → n < 8
-    → kind_value s values (formula_kind n) a b ≡ joins (formula_kind n) (told values a) (told values b)
-unfolding formula_kind kind_value joins
-join_value s values zero a b h l = absurd (omega arith)
-join_value s values (suc zero) a b h l = absurd (omega arith)
-join_value s values (suc (suc zero)) a b h l = absurd (omega arith)
-join_value s values (suc (suc (suc zero))) a b h l = absurd (omega arith)
-join_value s values (suc (suc (suc (suc zero)))) a b h l = refl
-join_value s values (suc (suc (suc (suc (suc zero))))) a b h l = refl
-join_value s values (suc (suc (suc (suc (suc (suc zero)))))) a b h l = refl
-join_value s values (suc (suc (suc (suc (suc (suc (suc zero))))))) a b h l = refl
-join_value s values (suc (suc (suc (suc (suc (suc (suc (suc n)))))))) a b h l = refl
+pub known :
+    {words : List ℕ} {i : ℕ} {s values : List ℕ}
+    → RowReady words i s values
+    → {row : TableRow}
+    → row ≡ words_at Formulas words i
+    → (r : Result Kind UnknownKind)
+    → FormulaKindOf row.first r
+    → IsOk r
+known ready read (Ok kind) tried = refl
+known {words} {i} {s} ready read (Err e) tried =
+    let w = row_at words i in
+    absurd (no_rule (length s) i w.a w.b w.kind (rw read at tried) ready.rule)
 
--- the arms of `value_of`
-module _ {words : List ℕ} {i : ℕ} {s values : List ℕ} (ready : RowReady words i s values) where
-  pub false_row : (row_at words i).kind ≡ 0 → 0 ≡ bit (row_value s values (row_at words i))
-  unfolding bit row_value kind_value formula_kind
-  false_row k = rw k
+-- the arms of `value_of`, from the words that it reads
+module _
+    {words : List ℕ} {i : ℕ} {s values : List ℕ} (ready : RowReady words i s values)
+    {row : TableRow} (read : row ≡ words_at Formulas words i)
+    {r : Result Kind UnknownKind} (tried : FormulaKindOf row.first r)
+    {kind : Kind} (unwrapped : r ≡ Ok kind) where
+  number : (row_at words i).kind ≡ formula_number kind
+  number =
+      let of : FormulaKindOf row.first (Ok kind) = rw unwrapped at tried in
+      sym (ap (λ (x : TableRow). x.first) read) ∙ of
 
-  pub true_row : (row_at words i).kind ≡ 1 → 1 ≡ bit (row_value s values (row_at words i))
-  unfolding bit row_value kind_value formula_kind
-  true_row k = rw k
+  kept : FormulaRule (length s) i (formula_kind (formula_number kind)) row.second row.third
+  kept = rw (read, ← number) ready.rule
 
-  pub variable_ref : (row_at words i).kind ≡ 2 → (row_at words i).a < length s
+  value : {x : ℕ} → x ≡ bit (kind_value s values (formula_kind (formula_number kind)) row.second row.third) → x ≡ bit (row_value s values (row_at words i))
+  unfolding row_value
+  value e = rw number (e ∙ rw read)
+
+  pub constant_row :
+      Constant kind
+      → {x : ℕ}
+      → x ≡ bit (joins (formula_kind (formula_number kind)) false false)
+      → x ≡ bit (row_value s values (row_at words i))
+  unfolding joins kind_value formula_kind
+  constant_row (inl e) d = value (rw e (rw e at d))
+  constant_row (inr e) d = value (rw e (rw e at d))
+
+  pub variable_ref : kind ≡ k.Variable → row.second < length s
   unfolding formula_kind
-  variable_ref k = let r : FormulaRule (length s) i (formula_kind 2) (row_at words i).a (row_at words i).b = rw k at ready.rule in r.0
+  variable_ref e = (rw e at kept).0
 
-  pub variable_row :
-      (row_at words i).kind ≡ 2 → get_or s (row_at words i).a 0 ≡ bit (row_value s values (row_at words i))
-  unfolding row_value kind_value formula_kind
-  variable_row k =
-      rw k
-      (bit_told (get_or s (row_at words i).a 0) (ready.state_bits (row_at words i).a (variable_ref k)))
+  pub variable_row : kind ≡ k.Variable → get_or s row.second 0 ≡ bit (row_value s values (row_at words i))
+  unfolding kind_value formula_kind
+  variable_row e = value (rw e (bit_told (get_or s row.second 0) (ready.state_bits row.second (variable_ref e))))
 
-  pub not_ref : (row_at words i).kind ≡ 3 → (row_at words i).a < i
+  pub join_refs : Joining kind → (row.second < i) × (row.third < i)
   unfolding formula_kind
-  not_ref k = let r : FormulaRule (length s) i (formula_kind 3) (row_at words i).a (row_at words i).b = rw k at ready.rule in r.0
+  join_refs (inl e) = let r = rw e at kept in (r.0, omega (arith, r))
+  join_refs (inr (inl e)) = rw e at kept
+  join_refs (inr (inr (inl e))) = rw e at kept
+  join_refs (inr (inr (inr (inl e)))) = rw e at kept
+  join_refs (inr (inr (inr (inr e)))) = rw e at kept
 
-  pub not_row :
-      (row_at words i).kind ≡ 3 → 1 - get_or values (row_at words i).a 0 ≡ bit (row_value s values (row_at words i))
-  unfolding row_value kind_value formula_kind
-  not_row k =
-      rw k (bit_not (get_or values (row_at words i).a 0) (ready.value_bits (row_at words i).a (not_ref k)))
+  pub join_bits : Joining kind → (get_or values row.second 0 ≤ 1) × (get_or values row.third 0 ≤ 1)
+  join_bits j = (ready.value_bits row.second (join_refs j).0, ready.value_bits row.third (join_refs j).1)
 
-  module _
-      (d0 : (row_at words i).kind ≡ 0 → ⊥)
-      (d1 : (row_at words i).kind ≡ 1 → ⊥)
-      (d2 : (row_at words i).kind ≡ 2 → ⊥)
-      (d3 : (row_at words i).kind ≡ 3 → ⊥) where
-    pub join_refs :
-        (4 ≤ (row_at words i).kind) × ((row_at words i).kind < 8) × ((row_at words i).a < i) × ((row_at words i).b < i)
-    join_refs =
-        rule_joins (length s) i (row_at words i).kind (row_at words i).a (row_at words i).b ready.rule d0 d1 d2 d3
-
-    pub join_row :
-        bit (joins (formula_kind (row_at words i).kind) (told values (row_at words i).a) (told values (row_at words i).b))
-        ≡ bit (row_value s values (row_at words i))
-    unfolding row_value
-    join_row =
-        ap bit
-        (sym
-        (join_value s values (row_at words i).kind (row_at words i).a (row_at words i).b join_refs.0 join_refs.1))
+  pub join_row :
+      Joining kind
+      → {x : ℕ}
+      → x ≡ bit (joins (formula_kind (formula_number kind)) (told values row.second) (told values row.third))
+      → x ≡ bit (row_value s values (row_at words i))
+  unfolding joins kind_value formula_kind
+  join_row (inl e) d = value (rw e (rw e at d))
+  join_row (inr (inl e)) d = value (rw e (rw e at d))
+  join_row (inr (inr (inl e))) d = value (rw e (rw e at d))
+  join_row (inr (inr (inr (inl e)))) d = value (rw e (rw e at d))
+  join_row (inr (inr (inr (inr e)))) d = value (rw e (rw e at d))
 
 -- what the loop has done before row i
 pub record Evaluating (words : List ℕ) (n : ℕ) (s before : List ℕ) (i : ℕ) (t : List ℕ) : Type 0 where

@@ -1,85 +1,66 @@
 -- Laws of the check's definitions, one for each way out of the functions that are held to them. Assumes nothing.
-use Prim.Native.Nat.{ℕ, zero, suc, ◌*◌, ◌≤◌, ◌<◌}
-use mathlib.Core.Path.{◌≡◌, refl, sym, ap, ◌∙◌}
-use mathlib.Core.Bool.{true, false, and-false}
+use Prim.Native.Nat.{ℕ, zero, suc, ◌≤◌, ◌<◌}
+use native.Mathlib.Omega.{arith}
+use mathlib.Core.Path.{◌≡◌, refl, sym, ap, ap₂, ◌∙◌}
+use mathlib.Core.Bool.{Bool, true, false}
 use mathlib.Core.List.{List}
-use lib.ListN.{length, get_or}
-use lib.Dec.{leb, ltb}
-use borrow.Author.Tests.{lt-ltb, le-ltb, le-leb, lt-leb, eq-eqb, ne_eqb}
+use lib.ListN.{length, get_or, take}
+use lib.Seq.{length-take-le, get_or-take}
+use lib.Dec.{ltb}
+use Rattle.std.specs.Bool.{MatchBool}
+use Rattle.std.specs.List.{AllWithin, HoldsAt, zip}
+use Rattle.std.proofs.lemmas.Slice.Zip.{length-zip, get_or-zip}
+use Rattle.task.specs.Bounded.{every}
 use Rattle.task.specs.declared.Head.{Head}
 use Rattle.task.specs.declared.Table.{Table}
 use Rattle.task.specs.declared.Table.TheVariants.{Formulas, Effects, Operators}
 use Rattle.task.specs.declared.TableRow.{TableRow}
-use Rattle.task.specs.Table.{operator_width, row_at, operator_at, formula_kind, effect_kind}
-use Rattle.task.specs.Check.{unless, counts_kept, formula_words_kept, effect_words_kept}
+use Rattle.task.specs.Table.{row_at, operator_at, formula_kind, effect_kind}
+use Rattle.task.specs.Check.{unless, formula_words_kept, effect_words_kept}
 use Rattle.task.specs.Inner.Tables.{words_at}
-use Rattle.finite_domain.specs.Table.{FiniteLent, finite_formula_kind, finite_effect_kind}
-use Rattle.finite_domain.specs.Check.{finite_counts_kept, finite_long_enough, count_kept, value_kept, finite_formula_kept, formula_value_kept, finite_formula_number, finite_effect_kept, effect_value_kept, finite_effect_number}
+use Rattle.task.proofs.Bounded.{every_from, every_fails, every_same}
+use Rattle.finite_domain.specs.Table.{finite_formula_kind, finite_effect_kind}
+use Rattle.finite_domain.specs.Check.{value_kept, finite_formula_kept, formula_value_kept, finite_formula_number, finite_effect_kept, effect_value_kept, finite_effect_number}
 use Rattle.finite_domain.specs.Inner.Tables.{finite_words_number, finite_row_number}
 
--- the head's counts
-module _ (h : Head) where
-  pub many_variables : 64 < h.variables → false ≡ finite_counts_kept h
-  unfolding finite_counts_kept
-  many_variables a = rw (lt-leb h.variables 64 a)
+-- a test of each of some items
+module _ {A : Type 0} (xs : List A) (d : A) (test : A → Bool) where
+  pub every_item :
+      (r : Bool)
+      → MatchBool r (AllWithin (λ x. test x ≡ true) xs 0 (length xs)) ((k : ℕ) × (k < length xs) × HoldsAt (λ x. test x ≡ false) xs k)
+      → r ≡ every (length xs) (λ k. test (get_or xs k d))
+  every_item true all = sym (every_from (length xs) (λ k. test (get_or xs k d)) (λ k h. all k d (omega arith) h))
+  every_item false (k, h, one) = sym (every_fails (length xs) (λ k. test (get_or xs k d)) k h (one d))
 
-  pub some_twins : (h.twins ≡ 0 → ⊥) → false ≡ finite_counts_kept h
-  unfolding finite_counts_kept
-  some_twins a = rw (ne_eqb h.twins 0 a) (sym (and-false (leb h.variables 64)))
+-- a variable's value below its count
+abbrev pub below : ℕ × ℕ → Bool
+below p = ltb p.0 p.1
 
-  pub other_counts : h.variables ≤ 64 → h.twins ≡ 0 → counts_kept h ≡ finite_counts_kept h
-  unfolding finite_counts_kept
-  other_counts a b = rw (le-leb h.variables 64 a, eq-eqb h.twins 0 b)
-
--- the last test of the lengths, where those before it passed
-pub finite_lengths_last :
-    (l : FiniteLent)
-    → l.head.variables ≤ length l.counts
-    → l.head.variables ≤ length l.initial
-    → 3 * l.head.formulas ≤ length l.formulas
-    → 3 * l.head.effects ≤ length l.effects
-    → leb (operator_width * l.head.operators) (length l.operators) ≡ finite_long_enough l
-unfolding finite_long_enough
-finite_lengths_last l a b c d =
-    rw (
-      le-leb l.head.variables (length l.counts) a,
-      le-leb l.head.variables (length l.initial) b,
-      le-leb (3 * l.head.formulas) (length l.formulas) c,
-      le-leb (3 * l.head.effects) (length l.effects) d,
-    )
-
--- a value count
-pub no_value : (n : ℕ) → n < 1 → false ≡ count_kept n
-unfolding count_kept
-no_value n h = rw (lt-leb 1 n h)
-
-pub some_value : (n : ℕ) → 1 ≤ n → leb n 16 ≡ count_kept n
-unfolding count_kept
-some_value n h = rw (le-leb 1 n h)
-
--- a variable's value
-module _ (counts : List ℕ) (a b : ℕ) where
-  pub value_outside : get_or counts a 0 ≤ b → value_kept counts a b ≡ false
+module _ (counts initial : List ℕ) where
+  -- values beside their counts
+  pub every_value :
+      length counts ≡ length initial
+      → every (length (zip initial counts)) (λ a. below (get_or (zip initial counts) a (0, 0)))
+      ≡ every (length initial) (λ a. value_kept counts a (get_or initial a 0))
   unfolding value_kept
-  value_outside h = le-ltb b (get_or counts a 0) h
+  every_value same =
+      let long : length (zip initial counts) ≡ length initial = length-zip initial counts ∙ omega arith in
+      rw long
+      (every_same (length initial) _ _ (λ a h.
+      ap below (get_or-zip initial counts a (0, 0) h (omega arith))))
 
-  pub value_inside : b < get_or counts a 0 → value_kept counts a b ≡ true
+  -- the first v of both
+  pub values_first :
+      (v : ℕ)
+      → v ≤ length counts
+      → v ≤ length initial
+      → every (length (take v initial)) (λ a. value_kept (take v counts) a (get_or (take v initial) a 0))
+      ≡ every v (λ a. value_kept counts a (get_or initial a 0))
   unfolding value_kept
-  value_inside h = lt-ltb b (get_or counts a 0) h
-
-  -- in a row whose table has its own number for a variable that is not there
-  module _ (v own : ℕ) where
-    abbrev Number : ℕ
-    Number = unless (ltb a v) own (unless (value_kept counts a b) 26 0)
-
-    pub no_variable : v ≤ a → own ≡ Number
-    no_variable h = rw (le-ltb a v h)
-
-    pub number_26 : a < v → get_or counts a 0 ≤ b → 26 ≡ Number
-    number_26 h k = rw (lt-ltb a v h, value_outside k)
-
-    pub number_none : a < v → b < get_or counts a 0 → 0 ≡ Number
-    number_none h k = rw (lt-ltb a v h, value_inside k)
+  values_first v there room =
+      rw (length-take-le v initial room)
+      (every_same v _ _ (λ a h.
+      ap₂ ltb (get_or-take v initial a 0 h) (get_or-take v counts a 0 h)))
 
 -- a formula row by its kind
 module _ (counts : List ℕ) (v i a b : ℕ) where
@@ -122,13 +103,12 @@ module _ (counts : List ℕ) (v f i a b : ℕ) where
   unfolding finite_effect_number finite_effect_kind finite_effect_kept effect_value_kept
   effect_leaf kind e = rw e
 
-  pub effect_no_set : (kind : ℕ) → kind ≡ 1 → 11 ≡ Effect_number kind
+  pub effect_no_atom : (kind : ℕ) → 1 ≤ kind → kind ≤ 2 → 11 ≡ Effect_number kind
   unfolding finite_effect_number finite_effect_kind finite_effect_kept
-  effect_no_set kind e = rw e
-
-  pub effect_no_clear : (kind : ℕ) → kind ≡ 2 → 11 ≡ Effect_number kind
-  unfolding finite_effect_number finite_effect_kind finite_effect_kept
-  effect_no_clear kind e = rw e
+  effect_no_atom zero g h = absurd (omega arith)
+  effect_no_atom (suc zero) g h = refl
+  effect_no_atom (suc (suc zero)) g h = refl
+  effect_no_atom (suc (suc (suc n))) g h = absurd (omega arith)
 
   pub effect_other :
       (kind : ℕ)

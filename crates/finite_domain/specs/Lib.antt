@@ -1,4 +1,5 @@
 pub mod Table
+pub mod Lending
 pub mod Check
 pub mod Rules
 pub mod Meaning

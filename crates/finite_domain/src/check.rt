@@ -1,76 +1,56 @@
-// The check of lent finite-domain tables: 0, or the first number in order.
-ghost use Rattle.std.specs.Prelude.{◌*◌, ◌≤◌, ◌≡◌, length};
-ghost use Rattle.task.specs.Inner.Tables.{width};
-ghost use Rattle.finite_domain.specs.Table.{finite_lent};
+// The check of lent finite-domain tables: the first refusal in order, or none.
+ghost use Rattle.std.specs.Prelude.{◌≡◌};
+ghost use Rattle.task.specs.Refused.{told};
+ghost use Rattle.finite_domain.specs.Lending.{lent_finite};
 ghost use Rattle.finite_domain.specs.Check.{finite_refusal};
-ghost use Rattle.finite_domain.specs.Inner.Tables.{finite_tables_number};
 
+use crate::FiniteTables;
 use crate::counts::finite_counts_kept;
 use crate::lengths::finite_long_enough;
-use crate::rows::rows_number;
+use crate::rows::check_rows;
 use crate::values::{initial_values_kept, value_counts_kept};
+use task::Table;
 use task::counts::goal_kept;
-use task::{Head, Table};
+use task::refusal::Refusal;
 
-// The first number among the rows of the three tables. Linear.
-fn tables_number(
-    head: Head,
-    counts: &[u16],
-    formulas: &[u16],
-    effects: &[u16],
-    operators: &[u16],
-) -> u16
-    requires { (head.variables ≤ length counts.now) × (3 * head.formulas ≤ length formulas.now) × (3 * head.effects ≤ length effects.now) × (width Table.Operators * head.operators ≤ length operators.now) }
-    ensures { result ≡ finite_tables_number head counts.now formulas.now effects.now operators.now }
+// The first refusal in order: 6, 7, 5, 25, 26, and row by row 10 and 26, 11 and 26, 12 and 24. Nothing is written. Linear in the counts.
+pub fn check(tables: &FiniteTables<'_>) -> Result<(), Refusal>
+    ensures { told result ≡ finite_refusal (lent_finite tables.now) }
 {
-    let formula = rows_number(
-        Table::Formulas,
-        head,
-        counts,
-        formulas,
-        head.formulas as usize,
-    );
-    if formula != 0 {
-        return formula;
-    }
-    let effect = rows_number(Table::Effects, head, counts, effects, head.effects as usize);
-    if effect != 0 {
-        return effect;
-    }
-    rows_number(
-        Table::Operators,
-        head,
-        counts,
-        operators,
-        head.operators as usize,
-    )
-}
-
-// 0, or the first number in order: 6, 7, 5, 25, 26, and row by row 10 and 26, 11 and 26, 12 and 24. Nothing is written. Linear in the counts.
-pub fn check(
-    head: Head,
-    counts: &[u16],
-    initial: &[u16],
-    formulas: &[u16],
-    effects: &[u16],
-    operators: &[u16],
-) -> u16
-    ensures { result ≡ finite_refusal (finite_lent head counts.now initial.now formulas.now effects.now operators.now) }
-{
+    let head = tables.head;
     if !finite_counts_kept(head) {
-        return 6;
+        return Err(Refusal::Counts);
     }
     if !goal_kept(head) {
-        return 7;
+        return Err(Refusal::Goal);
     }
-    if !finite_long_enough(head, counts, initial, formulas, effects, operators) {
-        return 5;
+    if !finite_long_enough(tables) {
+        return Err(Refusal::ShortTable);
     }
-    if !value_counts_kept(counts, head.variables as usize) {
-        return 25;
+    let variables = head.variables as usize;
+    let counts = &tables.counts[..variables];
+    if !value_counts_kept(counts) {
+        return Err(Refusal::ValueCount);
     }
-    if !initial_values_kept(counts, initial, head.variables as usize) {
-        return 26;
+    if !initial_values_kept(counts, &tables.initial[..variables]) {
+        return Err(Refusal::Value);
     }
-    tables_number(head, counts, formulas, effects, operators)
+    check_rows(
+        Table::Formulas,
+        tables,
+        tables.formulas,
+        head.formulas as usize,
+    )?;
+    check_rows(
+        Table::Effects,
+        tables,
+        tables.effects,
+        head.effects as usize,
+    )?;
+    check_rows(
+        Table::Operators,
+        tables,
+        tables.operators,
+        head.operators as usize,
+    )
 }

@@ -1,92 +1,102 @@
-// The numbers of rows: 10 and 26 of formulas, 11 and 26 of effects, 12 and 24 of operators.
+// The rules of rows: 10 and 26 of formulas, 11 and 26 of effects, 12 and 24 of operators.
 ghost use Rattle.std.specs.Prelude.{◌*◌, ◌≤◌, ◌≡◌, length};
 ghost use Rattle.task.specs.Bounded.{first_number};
-ghost use Rattle.task.specs.Check.{unless as unless_kept};
+ghost use Rattle.task.specs.Refused.{told};
 ghost use Rattle.task.specs.Inner.Tables.{width};
 ghost use Rattle.finite_domain.specs.Check.{finite_formula_number, finite_effect_number};
-ghost use Rattle.finite_domain.specs.Inner.Tables.{finite_words_number, finite_row_number};
+ghost use Rattle.finite_domain.specs.Inner.Tables.{named_row, finite_words_number, finite_row_number};
 
-use crate::values::value_number;
-use task::rows::{effect_kept, formula_kept, operator_number};
+use crate::FiniteTables;
+use crate::values::check_value;
+use task::check::refuse_unless;
+use task::kinds::{EffectKind, FormulaKind};
+use task::refusal::Refusal;
+use task::rows::{check_operator, effect_kept, formula_kept};
 use task::table_rows::row_at;
-use task::{Head, Table, TableRow};
+use task::{Table, TableRow};
 
-// The number, unless the rule is kept.
-fn unless(kept: bool, number: u16) -> u16
-    ensures { result ≡ unless_kept kept number 0 }
-{
-    if kept { 0 } else { number }
-}
+// The kind of the formula "variable a has value b", and that of 01 which it replaces.
+const HAS_VALUE: u16 = 8;
 
-// The number of formula row i: kind 8 names a variable and its value, 2 is unknown, the others are as in 01. Constant time, as are the two below.
-fn formula_number(counts: &[u16], variables: usize, i: usize, kind: u16, a: u16, b: u16) -> u16
-    requires { variables ≤ length counts.now }
-    ensures { result ≡ finite_formula_number counts.now variables i (record { kind = kind; a = a; b = b }) }
+const IS_TRUE: u16 = FormulaKind::Variable as u16;
+
+// The kind of the effect "variable a becomes value b", and those of 01 which it replaces.
+const BECOMES_VALUE: u16 = 5;
+
+const BECOMES_TRUE: u16 = EffectKind::Set as u16;
+
+const BECOMES_FALSE: u16 = EffectKind::Clear as u16;
+
+// The rule of formula row i. Constant time, as are the two below.
+#[tactic(auto, using(crate::proofs::Ways::formula_leaf, crate::proofs::Ways::formula_no_leaf, crate::proofs::Ways::formula_other))]
+fn check_formula(tables: &FiniteTables<'_>, i: usize, row: TableRow) -> Result<(), Refusal>
+    requires { tables.now.head.variables ≤ length tables.now.counts.now }
+    ensures { told result ≡ finite_formula_number tables.now.counts.now tables.now.head.variables i (named_row row) }
 {
-    match kind {
-        8 => value_number(counts, variables, a, b, 10),
-        2 => 10,
-        _ => unless(formula_kept(variables, i, kind, a, b), 10),
+    let variables = tables.head.variables as usize;
+    match row.first {
+        HAS_VALUE => check_value(tables, row.second, row.third, Refusal::Formula),
+        IS_TRUE => Err(Refusal::Formula),
+        _ => refuse_unless(
+            formula_kept(variables, i, row.first, row.second, row.third),
+            Refusal::Formula,
+        ),
     }
 }
 
-// The number of effect row i: kind 5 names a variable and its value, 1 and 2 are unknown, the others are as in 01.
-fn effect_number(
-    counts: &[u16],
-    variables: usize,
-    formulas: usize,
+// The rule of effect row i.
+#[tactic(auto, using(crate::proofs::Ways::effect_leaf, crate::proofs::Ways::effect_no_atom, crate::proofs::Ways::effect_other))]
+fn check_effect(tables: &FiniteTables<'_>, i: usize, row: TableRow) -> Result<(), Refusal>
+    requires { tables.now.head.variables ≤ length tables.now.counts.now }
+    ensures { told result ≡ finite_effect_number tables.now.counts.now tables.now.head.variables tables.now.head.formulas i (named_row row) }
+{
+    let variables = tables.head.variables as usize;
+    let formulas = tables.head.formulas as usize;
+    match row.first {
+        BECOMES_VALUE => check_value(tables, row.second, row.third, Refusal::Effect),
+        BECOMES_TRUE | BECOMES_FALSE => Err(Refusal::Effect),
+        _ => refuse_unless(
+            effect_kept(variables, formulas, i, row.first, row.second, row.third),
+            Refusal::Effect,
+        ),
+    }
+}
+
+// The rule of row i of a table.
+fn check_row(
+    table: Table,
+    tables: &FiniteTables<'_>,
     i: usize,
-    kind: u16,
-    a: u16,
-    b: u16,
-) -> u16
-    requires { variables ≤ length counts.now }
-    ensures { result ≡ finite_effect_number counts.now variables formulas i (record { kind = kind; a = a; b = b }) }
+    row: TableRow,
+) -> Result<(), Refusal>
+    requires { tables.now.head.variables ≤ length tables.now.counts.now }
+    ensures { told result ≡ finite_words_number table tables.now.head tables.now.counts.now i row }
 {
-    match kind {
-        5 => value_number(counts, variables, a, b, 11),
-        1 => 11,
-        2 => 11,
-        _ => unless(effect_kept(variables, formulas, i, kind, a, b), 11),
-    }
-}
-
-// The number of row i of a table: 0, or that of the rule which it breaks.
-fn row_number(table: Table, head: Head, counts: &[u16], i: usize, row: TableRow) -> u16
-    requires { head.variables ≤ length counts.now }
-    ensures { result ≡ finite_words_number table head counts.now i row }
-{
-    let variables = head.variables as usize;
-    let formulas = head.formulas as usize;
+    let head = tables.head;
     match table {
-        Table::Formulas => formula_number(counts, variables, i, row.first, row.second, row.third),
-        Table::Effects => effect_number(
-            counts, variables, formulas, i, row.first, row.second, row.third,
-        ),
-        Table::Operators => operator_number(
-            formulas,
+        Table::Formulas => check_formula(tables, i, row),
+        Table::Effects => check_effect(tables, i, row),
+        Table::Operators => check_operator(
+            head.formulas as usize,
             head.effects as usize,
-            row.first,
-            row.second,
-            row.third,
-            row.fourth,
+            row.into(),
         ),
     }
 }
 
-// The first number among the first `count` rows of a table, 0 if all keep their rule. Linear.
-pub fn rows_number(table: Table, head: Head, counts: &[u16], words: &[u16], count: usize) -> u16
-    requires { (head.variables ≤ length counts.now) × (width table * count ≤ length words.now) }
-    ensures { result ≡ first_number count (finite_row_number table head counts.now words.now) }
+// The rules of the first `count` rows of a table, upwards. Linear.
+pub fn check_rows(
+    table: Table,
+    tables: &FiniteTables<'_>,
+    words: &[u16],
+    count: usize,
+) -> Result<(), Refusal>
+    requires { (tables.now.head.variables ≤ length tables.now.counts.now) × (width table * count ≤ length words.now) }
+    ensures { told result ≡ first_number count (finite_row_number table tables.now.head tables.now.counts.now words.now) }
 {
-    let mut i = 0;
-    while i < count {
+    for i in 0..count {
         let row = row_at(table, words, i);
-        let number = row_number(table, head, counts, i, row);
-        if number != 0 {
-            return number;
-        }
-        i += 1;
+        check_row(table, tables, i, row)?;
     }
-    0
+    Ok(())
 }

@@ -1,5 +1,5 @@
 -- The row of a variable's twin is the one that the variable's word names; a new twin's row is put, and named there. Assumes nothing.
-use Prim.Native.Nat.{ℕ, suc, ◌+◌, ◌-◌, ◌*◌, ◌≤◌, ◌<◌}
+use Prim.Native.Nat.{ℕ, suc, ◌+◌, ◌*◌, ◌≤◌, ◌<◌}
 use native.Mathlib.Omega.{arith}
 use native.Mathlib.Decide.{ℕ_discrete}
 use mathlib.Core.Path.{◌≡◌, refl, sym, ap, ◌∙◌}
@@ -8,7 +8,7 @@ use mathlib.Core.List.{List, [], ◌∷◌, ◌++◌}
 use lib.ListN.{length, get_or, take, set, length-append, length-set}
 use lib.Seq.{length-take-le, get_or-set_same, get_or-set_other}
 use lib.Dec.{eqb}
-use borrow.Author.Tests.{eq-eqb, ne_eqb}
+use borrow.Author.Tests.{ne_eqb}
 use Rattle.task.specs.Bounded.{upto}
 use Rattle.task.specs.Table.{Row, row_at}
 use Rattle.task.specs.Rules.{no_row}
@@ -17,7 +17,7 @@ use Rattle.normal_form.specs.Builder.{St, bind, place, including, same_row, row,
 use Rattle.normal_form.proofs.Growth.{steady_variable_row, eqb_itself, place_within, prefix_refl}
 use Rattle.normal_form.proofs.Place.{Placed, found, added, placed, place_has, place_none, one_more as each_more, same_row_alike}
 use Rattle.formula_builder.specs.declared.Frame.{Frame}
-use Rattle.formula_builder.specs.Inner.Held.{store, held, sized, stepped, variable_of, twin_word, TwinsNamed, Ready, Done, Builds}
+use Rattle.formula_builder.specs.Inner.Held.{Size, Store, store, held, sized, done_step, full_step, variable_of, twin_word, TwinsNamed, Ready, Done, Builds}
 use Rattle.formula_builder.proofs.Found.{kept_found, kept_none}
 use Rattle.formula_builder.proofs.Stored.{one_more, one_past, upto_same}
 use Rattle.formula_builder.proofs.Indexing.{row_aside, aside_indexed}
@@ -54,23 +54,20 @@ module _ (frame : Frame) (n w : ℕ) (table o : List ℕ) (ready : Ready frame (
 
   -- a twin that stands
   pub twin_known :
-      0 < get_or table (twin_word frame v) 0
-      → Builds (twin_row frame.variables v) frame (sized n w) (store table o) (store table o)
-      (stepped n w (get_or table (twin_word frame v) 0 - 1))
+      (r : ℕ)
+      → get_or table (twin_word frame v) 0 ≡ suc r
+      → Builds (twin_row frame.variables v) frame (sized n w) (store table o) (store table o) (done_step (sized n w) r)
   unfolding twin_row bind twin held variable_row
-  twin_known h =
-      let r = get_or table (twin_word frame v) 0 - 1 in
-      let e : get_or table (twin_word frame v) 0 ≡ suc r = omega arith in
+  twin_known r e =
       let x = ready.rows in
       let named = ready.named.stands v r low e in
       let below = x.index.trees.within (twin_word frame v) r (omega arith) e in
       let l = take w o in
       let same : including eqb v l ≡ l = kept_found eqb v l (omega (arith, long, named.0)) in
-      rw (ne_eqb r 65535 (omega (arith, below, x.within, x.limit)))
-      (builds_from
+      builds_from
       (λ j. variable_row (frame.variables + place eqb v l) (record { rows = upto n (row_at table); twins = same j }))
       (omega arith)
-      (row_stands frame (sized n w) table o ready (variable_of (frame.variables + place eqb v l)) r below named.1))
+      (row_stands frame (sized n w) table o ready (variable_of (frame.variables + place eqb v l)) r below named.1)
 
   -- A twin that is new.
   module _ (none : get_or table (twin_word frame v) 0 ≡ 0) where
@@ -82,7 +79,7 @@ module _ (frame : Frame) (n w : ℕ) (table o : List ℕ) (ready : Ready frame (
 
     pub twin_full :
         w ≡ frame.twins
-        → Builds (twin_row frame.variables v) frame (sized n w) (store table o) (store table o) (stepped n w 65535)
+        → Builds (twin_row frame.variables v) frame (sized n w) (store table o) (store table o) (full_step (sized n w))
     unfolding twin_row twin held
     twin_full full =
         let l = take w o in
@@ -91,25 +88,26 @@ module _ (frame : Frame) (n w : ℕ) (table o : List ℕ) (ready : Ready frame (
         (λ x. steady_variable_row (frame.variables + x))
         (λ x. omega (arith, x.twins, ap (λ (x : List ℕ). length x) met, length-append l (v ∷ []), long)))
 
-    module _ {after : List ℕ} {m k : ℕ}
-        (b : Builds (variable_row (frame.variables + w)) frame (sized n w) (store table o) (store after o) (stepped m w k)) where
-      -- there is no room for its row
-      pub twin-over :
-          k ≡ 65535
-          → Builds (twin_row frame.variables v) frame (sized n w) (store table o) (store after o) (stepped m w 65535)
-      unfolding twin_row bind twin held variable_row row
-      twin-over e =
-          builds_over refl (b.still (eq-eqb k 65535 e))
-          (λ x.
-          b.over (eq-eqb k 65535 e)
-          (record {
-            rows = rw its_place at x.rows;
-            twins = omega (arith, long, ready.twins);
-          }))
+    -- there is no room for its row
+    pub twin-over :
+        {after : Store} {at : Size}
+        → Builds (variable_row (frame.variables + w)) frame (sized n w) (store table o) after (full_step at)
+        → Builds (twin_row frame.variables v) frame (sized n w) (store table o) after (full_step at)
+    unfolding twin_row bind twin held variable_row row
+    twin-over b =
+        builds_over refl (b.still refl)
+        (λ x.
+        b.over refl
+        (record {
+          rows = rw its_place at x.rows;
+          twins = omega (arith, long, ready.twins);
+        }))
 
-      module _ (room : w ≡ frame.twins → ⊥) (fits : k ≡ 65535 → ⊥) where
-        put : Done (variable_row (frame.variables + w)) frame (sized n w) (store table o) (store after o) (stepped m w k)
-        put = b.done (ne_eqb k 65535 fits)
+    module _ {after : List ℕ} {m k : ℕ}
+        (b : Builds (variable_row (frame.variables + w)) frame (sized n w) (store table o) (store after o) (done_step (sized m w) k)) where
+      module _ (room : w ≡ frame.twins → ⊥) where
+        put : Done (variable_row (frame.variables + w)) frame (sized n w) (store table o) (store after o) (done_step (sized m w) k)
+        put = b.done refl
 
         -- the tables with the twin
         abbrev rows' : List ℕ
@@ -239,12 +237,12 @@ module _ (frame : Frame) (n w : ℕ) (table o : List ℕ) (ready : Ready frame (
         pub twin-put :
             Builds (twin_row frame.variables v) frame (sized n w) (store table o)
             (store (set after (twin_word frame v) (k + 1)) (set o w v))
-            (stepped m (w + 1) k)
+            (done_step (sized m (w + 1)) k)
         unfolding twin_row bind twin held variable_row row
         twin-put =
             let back = its_place in
             let stand : upto m (row_at after) ≡ upto m (row_at rows') = sym (upto_same m (row_at rows') (row_at after) row-still) in
-            builds_done (ne_eqb k 65535 fits)
+            builds_done refl
             (record {
               value =
                   ap (λ (x : ℕ). place same_row (variable_of (frame.variables + x)) (upto n (row_at table))) its_place ∙ place-put;
@@ -257,3 +255,14 @@ module _ (frame : Frame) (n w : ℕ) (table o : List ℕ) (ready : Ready frame (
               below = put.below;
               grew = put.grew;
             })
+
+    -- the same, where the twins are known to be as they were
+    pub twin_added :
+        {after o' : List ℕ} {m w' k : ℕ}
+        → w' ≡ w
+        → o' ≡ o
+        → (w ≡ frame.twins → ⊥)
+        → Builds (variable_row (frame.variables + w)) frame (sized n w) (store table o) (store after o') (done_step (sized m w') k)
+        → Builds (twin_row frame.variables v) frame (sized n w) (store table o) (store (set after (twin_word frame v) (k + 1)) (set o' w v))
+        (done_step (sized m (w + 1)) k)
+    twin_added same kept room b = rw kept (twin-put (rw (same, kept) at b) room)

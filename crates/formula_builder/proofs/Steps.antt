@@ -2,26 +2,25 @@
 use Prim.Native.Nat.{ℕ, ◌+◌, ◌≤◌, ◌<◌}
 use native.Mathlib.Omega.{arith}
 use mathlib.Core.Path.{◌≡◌, refl, sym, ap, ap₂, ◌∙◌}
-use mathlib.Core.Bool.{Bool, true, false, true≢false}
+use mathlib.Core.Bool.{true, false, true≢false, false≢true}
+use mathlib.Core.Logic.{◌⊎◌, inl, inr}
 use mathlib.Core.List.{List, [], ◌∷◌, ◌++◌}
 use lib.ListN.{length, get_or, take, length-append}
-use lib.Dec.{eqb}
 use Rattle.task.specs.Bounded.{upto}
 use Rattle.task.specs.Table.{Row, row_at}
 use Rattle.task.proofs.Bounded.{length_upto}
 use Rattle.normal_form.specs.Builder.{St, Got, Build, give, bind, place, including, same_row, row, Polarity, plain, negated, image_of_false, image_of_true, join_kind, choice, join_as, join}
 use Rattle.normal_form.specs.Growth.{Prefix, Grows, Steady}
-use borrow.Author.Tests.{eqb-true, eqb-false, eq-eqb, ne_eqb}
+use borrow.Author.Tests.{eq-eqb, ne_eqb}
 use Rattle.formula_builder.specs.declared.Frame.{Frame}
-use Rattle.formula_builder.specs.declared.Size.{Size}
-use Rattle.formula_builder.specs.declared.Step.{Step}
-use Rattle.formula_builder.specs.Inner.Index.{Searchable, Found, appended, Put, stood, no_room, behind, rows_after}
-use Rattle.formula_builder.specs.Inner.Held.{Store, store, held, size_of, sized, stepped, done_step, RowsReady, twin_word, Ready, Within, Done, Builds}
+use Rattle.std.specs.Prelude.{Result, Ok, Err}
+use Rattle.std.specs.Result.{IsErr}
+use Rattle.formula_builder.specs.declared.Builder.{Builder}
+use Rattle.formula_builder.specs.declared.NoRoom.{NoRoom}
+use Rattle.formula_builder.specs.Inner.Index.{Searchable, Found, appended}
+use Rattle.formula_builder.specs.Inner.Held.{Size, Step, Store, store, held, size_of, done_step, full_step, size_in, step_by, full_by, RowsReady, twin_word, Ready, Within, Done, Builds, Same}
 use Rattle.formula_builder.proofs.Found.{kept_found, kept_none}
-use Rattle.formula_builder.proofs.Indexing.{searchable, length_appended, before, other, appended_rows, appended-indexed, stands_place, found_below, missing_place}
-
-abbrev pub full_step : Size → Step
-full_step at = record { rows = at.rows; twins = at.twins; row = 65535; full = true }
+use Rattle.formula_builder.proofs.Indexing.{searchable, length_appended, before, other, appended_rows, appended-indexed, stands_place, missing_place}
 
 -- Done, or over, is all that there is to a step.
 module _ {m : Build ℕ} {frame : Frame} {at : Size} {before after : Store} {r : Step} where
@@ -197,74 +196,23 @@ module _ (frame : Frame) (at : Size) (table o : List ℕ) (ready : Ready frame a
           grew = omega arith;
         })
 
--- A row that was put.
-module _ (frame : Frame) (at : Size) (table o : List ℕ) (ready : Ready frame at (store table o)) (r : Row) (after : List ℕ) (k : ℕ) where
-  pub put_full :
-      Put frame.rows at.rows table r after k
-      → k ≡ 65535
-      → Builds (row r) frame at (store table o) (store after o) (full_step at)
-  put_full (stood p f e same) last =
-      let x = ready.rows in
-      absurd (omega (arith, found_below x.index f k e, x.within, x.limit))
-  put_full (no_room p f free all same _) last = rw same (row_full frame at table o ready r p f free all)
-  put_full (behind p f free some same its) last =
-      let x = ready.rows in
-      absurd (omega (arith, x.within, x.limit))
-
-  pub put_done :
-      Put frame.rows at.rows table r after k
-      → (k ≡ 65535 → ⊥)
-      → Builds (row r) frame at (store table o) (store after o)
-      (record { rows = rows_after at.rows k; twins = at.twins; row = k; full = false })
-  put_done (stood p f e same) room =
-      rw (same, ne_eqb k at.rows (λ h. omega (arith, found_below ready.rows.index f k e)))
-      (row_stands frame at table o ready r k (found_below ready.rows.index f k e) (f.stands k e))
-  put_done (no_room p f free all same its) room = absurd (room its)
-  put_done (behind p f free some same its) room =
-      rw (same, its, eq-eqb at.rows at.rows refl) (row_appended frame at table o ready r p f free some)
-
--- The same, with the count that the code has set.
-module _ (frame : Frame) (n w : ℕ) (table o : List ℕ) (ready : Ready frame (sized n w) (store table o)) (r : Row) (after : List ℕ) (k : ℕ) where
-  put_counted :
-      Put frame.rows n table r after k
-      → (b : Bool)
-      → eqb k 65535 ≡ b
-      → Builds (row r) frame (sized n w) (store table o) (store after o) (stepped (rows_after n k) w k)
-  put_counted put true t =
-      let x = ready.rows in
-      let e : k ≡ 65535 = eqb-true k 65535 t in
-      rw (e, ne_eqb 65535 n (λ h. omega (arith, x.within, x.limit)))
-      (put_full frame (sized n w) table o ready r after k put e)
-  put_counted put false t =
-      rw t (put_done frame (sized n w) table o ready r after k put (eqb-false k 65535 t))
-
-  pub row_put :
-      (most : ℕ)
-      → frame.rows ≡ most
-      → Put most n table r after k
-      → Builds (row r) frame (sized n w) (store table o) (store after o) (stepped (rows_after n k) w k)
-  row_put most same put = put_counted (rw (sym same) at put) (eqb k 65535) refl
-
 -- a row that stands is answered
 pub builds_stands :
-    {frame : Frame} {n w : ℕ} {s : Store} (x : ℕ)
-    → Ready frame (sized n w) s
-    → x < n
-    → Builds (give x) frame (sized n w) s s (stepped n w x)
+    {frame : Frame} {at : Size} {s : Store} (x : ℕ)
+    → Ready frame at s
+    → x < at.rows
+    → Builds (give x) frame at s s (done_step at x)
 unfolding give
 builds_stands x ready h =
-    builds_done (ne_eqb x 65535 (λ e. omega (arith, ready.rows.within, ready.rows.limit)))
-    (record { value = refl; state = refl; ready = ready; below = h; grew = omega arith })
+    builds_done refl (record { value = refl; state = refl; ready = ready; below = h; grew = omega arith })
 
 -- How a join comes out.
 module _ (p : Polarity) (a b : ℕ) where
-  pub join_left_false : a ≡ image_of_false p → join p a b ≡ give (image_of_false p)
+  pub join_false :
+      (a ≡ image_of_false p) ⊎ ((a ≡ image_of_false p → ⊥) × (b ≡ image_of_false p)) → join p a b ≡ give (image_of_false p)
   unfolding join choice join_as
-  join_left_false e = rw (eq-eqb a (image_of_false p) e)
-
-  pub join_right_false : (a ≡ image_of_false p → ⊥) → b ≡ image_of_false p → join p a b ≡ give (image_of_false p)
-  unfolding join choice join_as
-  join_right_false h e = rw (ne_eqb a (image_of_false p) h, eq-eqb b (image_of_false p) e)
+  join_false (inl e) = rw (eq-eqb a (image_of_false p) e)
+  join_false (inr (h, e)) = rw (ne_eqb a (image_of_false p) h, eq-eqb b (image_of_false p) e)
 
   module _ (h : a ≡ image_of_false p → ⊥) (g : b ≡ image_of_false p → ⊥) where
     pub join_left_true : a ≡ image_of_true p → join p a b ≡ give b
@@ -286,6 +234,10 @@ pub falsity_small : (p : Polarity) → image_of_false p < 2
 falsity_small plain = omega arith
 falsity_small negated = omega arith
 
+pub truth_small : (p : Polarity) → image_of_true p < 2
+truth_small plain = omega arith
+truth_small negated = omega arith
+
 -- a step that is another one
 pub builds_as :
     {m m' : Build ℕ} {frame : Frame} {at : Size} {before after : Store} {r : Step}
@@ -293,3 +245,27 @@ pub builds_as :
     → Builds m' frame at before after r
     → Builds m frame at before after r
 builds_as {at = at} {before = before} e b = builds_from (ap (λ (m : Build ℕ). m (held at before)) e) (omega arith) b
+
+-- a builder stays as it is
+pub same_itself : (b : Builder) → Same b b
+same_itself b =
+    record { frame = refl; table = refl; table_length = refl; originals = refl; originals_length = refl }
+
+pub same_twice : {b c d : Builder} → Same b c → Same c d → Same b d
+same_twice x y =
+    record {
+      frame = y.frame ∙ x.frame;
+      table = y.table ∙ x.table;
+      table_length = y.table_length ∙ x.table_length;
+      originals = y.originals ∙ x.originals;
+      originals_length = y.originals_length ∙ x.originals_length;
+    }
+
+-- what `?` returns onward says that there was no room
+pub step_failed : (b : Builder) (r : Result ℕ NoRoom) → IsErr r → step_by b r ≡ full_step (size_in b)
+step_failed b (Ok x) h = absurd (false≢true h)
+step_failed b (Err e) h = refl
+
+pub full_failed : {A : Type 0} (r : Result A NoRoom) → IsErr r → full_by r ≡ true
+full_failed (Ok x) h = absurd (false≢true h)
+full_failed (Err e) h = refl

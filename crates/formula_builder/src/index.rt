@@ -6,6 +6,7 @@ ghost use Rattle.formula_builder.specs.Inner.Held.{row_of};
 use crate::Words;
 
 // The key of a row. Kinds are below 8, rows and variables below 4,096: so a key has 27 bits, and rows that differ have keys that differ. Constant time.
+#[tactic(auto, unfolding(crate::specs::Inner::Index::key_of))]
 pub fn key(r: Words) -> usize
     ensures { (result ≡ key_of (row_of r)) × (result < 536870912) }
 {
@@ -14,6 +15,7 @@ pub fn key(r: Words) -> usize
 
 // The word of a key's head, with room for so many rows. There are four heads for each: most rows that are looked for are new, and a head that names
 // none says so at once. Constant time, and no division by the heads' number.
+#[tactic(auto, using(crate::proofs::Indexing::hash_small), unfolding(crate::specs::Inner::Index::head_of))]
 pub fn head_word(most: usize, key: usize) -> usize
     requires { (0 < most) × (most ≤ 4096) × (key < 536870912) }
     ensures { (result ≡ 5 * most + head_of most key) × (result < 9 * most) }

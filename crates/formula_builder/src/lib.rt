@@ -1,25 +1,20 @@
-// Building the formula table of a compiled task: a row or a twin is found in the tables that are lent, or appended. A step changes the counts of
-// rows and twins in place and answers the number of its row, or NO_ROOM; so do the steps built on these, of images and conditions.
+// Building the formula table of a compiled task: a row or a twin is found in the tables that are lent, or appended. So do the steps built on these, of
+// images and conditions: each answers the number of its row, or that there is no room.
 #![tactic(auto)]
 
-mod frames;
 mod index;
-mod joins;
 mod rows;
-mod sizes;
-mod twins;
+mod stepping;
 
-pub use frames::{EFFECTS, FORMULAS, ROWS, TWINS, VARIABLES, frame_of, words_of};
-pub use joins::{falsity, join, truth};
-pub use rows::{first_rows, read_row, row};
-pub use sizes::step_of;
-pub use twins::twin_row;
+pub use rows::{first_rows, read_row};
+pub use stepping::{falsity, truth};
 
-// What a step answers instead of a row's number if there was no room.
-pub const NO_ROOM: u16 = 65535;
+// There is no room for a row or a twin.
+#[derive(Clone, Copy, Debug, PartialEq, Eq)]
+pub struct NoRoom;
 
 // A row's three words.
-#[derive(Clone, Copy)]
+#[derive(Clone, Copy, Debug, PartialEq, Eq)]
 pub struct Words {
     pub kind: u16,
     pub a: u16,
@@ -27,7 +22,7 @@ pub struct Words {
 }
 
 // The source's counts of variables, formulas and effects, and how many rows and twins the compiled task has room for.
-#[derive(Clone, Copy)]
+#[derive(Clone, Copy, Debug, PartialEq, Eq)]
 pub struct Frame {
     pub variables: usize,
     pub formulas: usize,
@@ -36,18 +31,12 @@ pub struct Frame {
     pub twins: usize,
 }
 
-// How many rows and twins stand.
-#[derive(Clone, Copy)]
-pub struct Size {
+// The tables that building writes: so many rows stand in one, with their index behind them, and the originals of so many twins in the other.
+#[derive(Drop)]
+pub struct Builder<'t> {
+    pub frame: Frame,
     pub rows: usize,
     pub twins: usize,
-}
-
-// A step from one size to another, for the parts of compiling: the size after it and the row that it built; or that there was no room.
-#[derive(Clone, Copy)]
-pub struct Step {
-    pub rows: usize,
-    pub twins: usize,
-    pub row: u16,
-    pub full: bool,
+    pub table: &'t mut [u16],
+    pub originals: &'t mut [u16],
 }

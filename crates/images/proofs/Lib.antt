@@ -1,4 +1,3 @@
 pub mod Rows
-pub mod Leaf
 pub mod Memos
 pub mod Steps

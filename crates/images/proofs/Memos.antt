@@ -6,7 +6,6 @@ use mathlib.Core.Path.{◌≡◌, refl, sym, ap, ◌∙◌}
 use mathlib.Core.Bool.{Bool, true, false, true≢false}
 use mathlib.Core.List.{List}
 use lib.ListN.{length, get_or, set}
-use borrow.Author.Tests.{ne_eqb}
 use lib.Seq.{get_or-set_same, get_or-set_other}
 use Rattle.task.specs.Table.{row_at}
 use Rattle.task.proofs.Bounded.{length_upto}
@@ -15,9 +14,7 @@ use Rattle.normal_form.specs.Growth.{Grows, Steady}
 use Rattle.normal_form.proofs.Growth.{grows_refl, steady_bind, steady_join, steady_pair}
 use Rattle.normal_form.proofs.Steady.{steady_image}
 use Rattle.formula_builder.specs.declared.Frame.{Frame}
-use Rattle.formula_builder.specs.declared.Size.{Size}
-use Rattle.formula_builder.specs.declared.Step.{Step}
-use Rattle.formula_builder.specs.Inner.Held.{Store, held, size_of, side, stepped, Done, Builds}
+use Rattle.formula_builder.specs.Inner.Held.{Size, Step, Store, held, size_of, side, done_step, Done, Builds}
 use Rattle.formula_builder.proofs.Steps.{builds_done, builds_as, builds_bind, builds_stop, prefix_length}
 use Rattle.images.specs.Inner.Images.{tree, image_at, pair_at, memo_place, Known, Memo, Asks, Images}
 
@@ -229,17 +226,16 @@ pub images_known :
     → k ≡ memo_place frame p i
     → (get_or scratch k 0 ≡ 0 → ⊥)
     → Images (image_at frame formulas p i) frame formulas at before before scratch scratch
-    (stepped at.rows at.twins (get_or scratch k 0 - 1))
+    (done_step at (get_or scratch k 0 - 1))
 unfolding held
 images_known {frame} {at = at} {before = before} {scratch} {i} {k} p a e some =
     let w = get_or scratch k 0 in
     let here : w ≡ w - 1 + 1 = omega arith in
     let k = a.memo.known p i (w - 1) a.formula (ap (λ x. get_or scratch x 0) (sym e) ∙ here) in
     let b : w - 1 < at.rows = rw (length_upto at.rows (row_at before.table)) at k.below in
-    let rows = a.ready.rows in
     record {
       builds =
-          builds_done (ne_eqb (w - 1) 65535 (λ q. omega (arith, rows.within, rows.limit)))
+          builds_done refl
           (record {
             value = ap (λ (g : Got ℕ). g.value) k.again;
             state = ap (λ (g : Got ℕ). g.st) k.again;

@@ -1,12 +1,11 @@
 -- The image of a row by its kind. Assumes nothing.
-use Prim.Native.Nat.{ℕ, zero, suc, ◌≤◌, ◌<◌}
+use Prim.Native.Nat.{ℕ, ◌≤◌, ◌<◌}
 use native.Mathlib.Omega.{arith}
 use native.Mathlib.Decide.{ℕ_discrete, dec_lt}
-use mathlib.Core.Path.{◌≡◌, refl, sym, ap, ap₂, ◌∙◌}
-use mathlib.Core.Bool.{Bool, true, false, not, beq}
+use mathlib.Core.Path.{◌≡◌, sym, ap, ap₂, ◌∙◌}
+use mathlib.Core.Bool.{Bool, true, false, not}
 use mathlib.Core.List.{List, [], ◌∷◌}
 use lib.ListN.{length, get_or, get_or-eq_default}
-use lib.Dec.{eqb}
 use Rattle.task.specs.Table.{row_at, FormulaKind, false_kind, true_kind, variable_kind, not_kind, and_kind, or_kind, implies_kind, equivalent_kind, unknown_formula, formula_kind}
 use Rattle.task.specs.Rules.{no_row, FormulaRule}
 use Rattle.task.specs.Semantics.{Formula}
@@ -14,13 +13,12 @@ use Rattle.task.specs.Tree.{formula_node}
 use Rattle.task.proofs.Bounded.{length_upto, getD_upto}
 use Rattle.task.proofs.Trees.{formula_unfolds}
 use Rattle.task.specs.Inner.Rows.{FormulaKept}
-use Rattle.normal_form.specs.Builder.{Build, pair, Polarity, plain, negated}
-use Rattle.normal_form.specs.Image.{image}
+use Rattle.normal_form.specs.Builder.{Build, give, pair, Polarity, plain, negated, image_of_false, image_of_true}
+use Rattle.normal_form.specs.Image.{literal, image}
 use Rattle.formula_builder.specs.declared.Words.{Words}
 use Rattle.formula_builder.specs.declared.Frame.{Frame}
-use Rattle.formula_builder.specs.declared.Size.{Size}
-use Rattle.formula_builder.specs.Inner.Held.{Store, row_of, side}
-use Rattle.images.specs.Inner.Images.{source_rows, tree, image_at, pair_at, equivalent_at, leaf_built, Asks}
+use Rattle.formula_builder.specs.Inner.Held.{Size, Store, row_of, side}
+use Rattle.images.specs.Inner.Images.{source_rows, tree, image_at, pair_at, equivalent_at, Asks}
 
 known_kind : (v i k a b : ℕ) → FormulaRule v i (formula_kind k) a b → k < 8
 unfolding formula_kind
@@ -47,19 +45,19 @@ two_operands v i k a b r l = go (ℕ_discrete k 4) (ℕ_discrete k 5) (ℕ_discr
 
 -- The image of a row by its kind, over the formulas p and q that its words a and b name.
 module _ (n : ℕ) (a : ℕ) (f g : Formula) where
-  leaf_image :
-      (p : Polarity) (k b : ℕ)
-      → k < 3
-      → image n p (formula_node (formula_kind k) a f g) ≡ leaf_built n p (record { kind = k; a = a; b = b })
-  unfolding image formula_node formula_kind leaf_built
-  leaf_image plain zero b h = refl
-  leaf_image plain (suc zero) b h = refl
-  leaf_image plain (suc (suc zero)) b h = refl
-  leaf_image plain (suc (suc (suc k))) b h = absurd (omega arith)
-  leaf_image negated zero b h = refl
-  leaf_image negated (suc zero) b h = refl
-  leaf_image negated (suc (suc zero)) b h = refl
-  leaf_image negated (suc (suc (suc k))) b h = absurd (omega arith)
+  false_image : (p : Polarity) (k : ℕ) → k ≡ 0 → image n p (formula_node (formula_kind k) a f g) ≡ give (image_of_false p)
+  unfolding image formula_node formula_kind
+  false_image plain k e = rw e
+  false_image negated k e = rw e
+
+  true_image : (p : Polarity) (k : ℕ) → k ≡ 1 → image n p (formula_node (formula_kind k) a f g) ≡ give (image_of_true p)
+  unfolding image formula_node formula_kind
+  true_image plain k e = rw e
+  true_image negated k e = rw e
+
+  variable_image : (p : Polarity) (k : ℕ) → k ≡ 2 → image n p (formula_node (formula_kind k) a f g) ≡ literal n p a
+  unfolding image formula_node formula_kind
+  variable_image p k e = rw e
 
   negation_image :
       (b : Bool) (k : ℕ) → k ≡ 3 → image n (side b) (formula_node (formula_kind k) a f g) ≡ image n (side (not b)) f
@@ -67,28 +65,29 @@ module _ (n : ℕ) (a : ℕ) (f g : Formula) where
   negation_image false k e = rw e
   negation_image true k e = rw e
 
-  -- "and", "or" and "implies": which side the left is on, and which join it is
-  pair_image :
+  and_image :
       (b : Bool) (k : ℕ)
-      → 4 ≤ k
-      → k < 7
-      → image n (side b) (formula_node (formula_kind k) a f g)
-      ≡ pair (side (beq (eqb k 4) b)) (image n (side (not (beq (eqb k 6) b))) f) (image n (side b) g)
+      → k ≡ 4
+      → image n (side b) (formula_node (formula_kind k) a f g) ≡ pair (side b) (image n (side b) f) (image n (side b) g)
   unfolding image formula_node formula_kind
-  pair_image b k l h = go b (ℕ_discrete k 4) (ℕ_discrete k 5)
-    where
-      go :
-          (b : Bool)
-          → Dec (k ≡ 4)
-          → Dec (k ≡ 5)
-          → image n (side b) (formula_node (formula_kind k) a f g)
-          ≡ pair (side (beq (eqb k 4) b)) (image n (side (not (beq (eqb k 6) b))) f) (image n (side b) g)
-      go false (yes e) _ = rw e
-      go true (yes e) _ = rw e
-      go false (no _) (yes e) = rw e
-      go true (no _) (yes e) = rw e
-      go false (no c) (no d) = let e : k ≡ 6 = omega arith in rw e
-      go true (no c) (no d) = let e : k ≡ 6 = omega arith in rw e
+  and_image false k e = rw e
+  and_image true k e = rw e
+
+  or_image :
+      (b : Bool) (k : ℕ)
+      → k ≡ 5
+      → image n (side b) (formula_node (formula_kind k) a f g) ≡ pair (side (not b)) (image n (side b) f) (image n (side b) g)
+  unfolding image formula_node formula_kind
+  or_image false k e = rw e
+  or_image true k e = rw e
+
+  implies_image :
+      (b : Bool) (k : ℕ)
+      → k ≡ 6
+      → image n (side b) (formula_node (formula_kind k) a f g) ≡ pair (side (not b)) (image n (side (not b)) f) (image n (side b) g)
+  unfolding image formula_node formula_kind
+  implies_image false k e = rw e
+  implies_image true k e = rw e
 
   equivalence_image :
       (b : Bool) (k : ℕ)
@@ -123,7 +122,7 @@ module _ {frame : Frame} {formulas : List ℕ} {at : Size} {before : Store} {scr
   rule_held : FormulaKept frame.variables i (row_of w)
   rule_held = rw row_held at (x.source.down.row i within)
 
-  known : w.kind < 8
+  pub known : w.kind < 8
   known = known_kind frame.variables i w.kind w.a w.b rule_held
 
   -- the two words of a row of kind 4 to 7 name lower rows
@@ -155,25 +154,35 @@ module _ {frame : Frame} {formulas : List ℕ} {at : Size} {before : Store} {scr
       ap (image frame.variables p)
       (formula_unfolds frame.variables (source_rows frame formulas) x.source.down i within ∙ rw row_held)
 
-  pub of_leaf : (b : Bool) → w.kind < 3 → image_at frame formulas (side b) i ≡ leaf_built frame.variables (side b) (row_of w)
+  pub of_false : (p : Polarity) → w.kind ≡ 0 → image_at frame formulas p i ≡ give (image_of_false p)
   unfolding node
-  of_leaf b l = unfolds (side b) ∙ leaf_image frame.variables _ _ _ (side b) w.kind w.b l
+  of_false p k = unfolds p ∙ false_image frame.variables _ _ _ p w.kind k
+
+  pub of_true : (p : Polarity) → w.kind ≡ 1 → image_at frame formulas p i ≡ give (image_of_true p)
+  unfolding node
+  of_true p k = unfolds p ∙ true_image frame.variables _ _ _ p w.kind k
+
+  pub of_variable : (p : Polarity) → w.kind ≡ 2 → image_at frame formulas p i ≡ literal frame.variables p w.a
+  unfolding node
+  of_variable p k = unfolds p ∙ variable_image frame.variables _ _ _ p w.kind k
 
   pub of_not : (b : Bool) → w.kind ≡ 3 → image_at frame formulas (side b) i ≡ image_at frame formulas (side (not b)) w.a
   unfolding node image_at
   of_not b k = unfolds (side b) ∙ negation_image frame.variables _ _ _ b w.kind k
 
-  pub of_pair :
-      (b : Bool)
-      → 4 ≤ w.kind
-      → (w.kind ≡ 7 → ⊥)
-      → image_at frame formulas (side b) i
-      ≡ pair_at frame formulas i (not (beq (eqb w.kind 6) b)) b (beq (eqb w.kind 4) b)
+  -- the left is on one side, the right on b's, and they are joined as the row's kind and b say
+  pub of_and : (b : Bool) → w.kind ≡ 4 → image_at frame formulas (side b) i ≡ pair_at frame formulas i b b b
   unfolding node image_at
-  of_pair b l m =
-      unfolds (side b)
-      ∙ pair_image frame.variables _ _ _ b w.kind l (omega (arith, known))
-      ∙ sym (pair_words frame formulas i w e (not (beq (eqb w.kind 6) b)) b (beq (eqb w.kind 4) b))
+  of_and b k = unfolds (side b) ∙ and_image frame.variables _ _ _ b w.kind k ∙ sym (pair_words frame formulas i w e b b b)
+
+  pub of_or : (b : Bool) → w.kind ≡ 5 → image_at frame formulas (side b) i ≡ pair_at frame formulas i b b (not b)
+  unfolding node image_at
+  of_or b k = unfolds (side b) ∙ or_image frame.variables _ _ _ b w.kind k ∙ sym (pair_words frame formulas i w e b b (not b))
+
+  pub of_implies : (b : Bool) → w.kind ≡ 6 → image_at frame formulas (side b) i ≡ pair_at frame formulas i (not b) b (not b)
+  unfolding node image_at
+  of_implies b k =
+      unfolds (side b) ∙ implies_image frame.variables _ _ _ b w.kind k ∙ sym (pair_words frame formulas i w e (not b) b (not b))
 
   pub of_equivalent : (b : Bool) → w.kind ≡ 7 → image_at frame formulas (side b) i ≡ equivalent_at frame formulas i b
   unfolding node image_at equivalent_at

@@ -1,49 +1,24 @@
 -- What the steps of the code of images ask and answer. Assumes nothing.
-use Prim.Native.Nat.{ℕ, ◌≤◌, ◌<◌}
+use Prim.Native.Nat.{ℕ, ◌-◌, ◌≤◌, ◌<◌}
 use native.Mathlib.Omega.{arith}
-use mathlib.Core.Path.{◌≡◌, refl, ap}
+use mathlib.Core.Path.{◌≡◌, refl, ap, ◌∙◌}
 use mathlib.Core.Bool.{Bool, true, false, not}
 use mathlib.Core.List.{List}
-use lib.ListN.{length}
+use lib.ListN.{length, get_or}
 use Rattle.task.specs.Table.{Row, row_at}
-use Rattle.normal_form.specs.Builder.{Build, Polarity, negated}
+use Rattle.std.specs.Prelude.{Result, Ok, Err}
+use Rattle.std.specs.Result.{IsErr}
+use Rattle.normal_form.specs.Builder.{Build, give, join, Polarity, negated}
 use Rattle.formula_builder.specs.declared.Words.{Words}
 use Rattle.formula_builder.specs.declared.Frame.{Frame}
-use Rattle.formula_builder.specs.declared.Size.{Size}
-use Rattle.formula_builder.specs.declared.Step.{Step}
-use Rattle.formula_builder.specs.Inner.Held.{Store, row_of, size_of, side, JoinReady, Builds}
-use Rattle.formula_builder.proofs.Steps.{builds_as}
-use Rattle.images.specs.Inner.Images.{image_at, pair_at, equivalent_at, leaf_built, Asks, AsksPair, LeafReady, Images}
-use Rattle.images.proofs.Rows.{operands, negated_operand, variable_words, of_leaf, pair_words}
-use Rattle.images.proofs.Memos.{steady_image_at, steady_pair_at, asks_next, images_leaf, Joins}
-
--- what a join of two rows asks
-pub join_asks :
-    {left right : Build ℕ} {frame : Frame} {at : Size} {before mid after : Store} {l r : Step}
-    → Builds left frame at before mid l
-    → l.full ≡ false
-    → Builds right frame (size_of l) mid after r
-    → r.full ≡ false
-    → JoinReady frame.rows r.rows after.table l.row r.row
-join_asks x e y g =
-    let d = x.done e in
-    let f = y.done g in
-    record { rows = f.ready.rows; two = f.ready.two; left = omega (arith, d.below, f.grew); right = f.below }
-
--- a frame that is the same, as five numbers
-pub asks_framed :
-    {f g : Frame} {formulas : List ℕ} {at : Size} {before : Store} {scratch : List ℕ} {i : ℕ}
-    → f ≡ g
-    → Asks g formulas at before scratch i
-    → Asks f formulas at before scratch i
-asks_framed e a = rw e a
-
-pub images_framed :
-    {f g : Frame} {formulas : List ℕ} {at : Size} {before after : Store} {scratch scratch' : List ℕ} {r : Step} (p : Polarity) (i : ℕ)
-    → f ≡ g
-    → Images (image_at f formulas p i) f formulas at before after scratch scratch' r
-    → Images (image_at g formulas p i) g formulas at before after scratch scratch' r
-images_framed p i e x = rw (← e) x
+use Rattle.formula_builder.specs.declared.NoRoom.{NoRoom}
+use Rattle.formula_builder.specs.declared.Builder.{Builder}
+use Rattle.formula_builder.specs.Inner.Held.{Size, Step, Store, row_of, side, size_of, size_in, store_in, JoinReady, Built}
+use Rattle.formula_builder.proofs.Steps.{builds_as, builds_stands, step_failed, same_itself, same_twice}
+use Rattle.images.specs.declared.ImageBuilder.{ImageBuilder}
+use Rattle.images.specs.Inner.Images.{image_at, pair_at, equivalent_at, memo_place, Asks, AsksPair, Images, image_by, AsksThere, AsksImage, SameImages, Later, Imaged}
+use Rattle.images.proofs.Rows.{operands, negated_operand, pair_words}
+use Rattle.images.proofs.Memos.{steady_image_at, steady_pair_at, asks_next, images_as, images_leaf, images_known, left_full, right_full, joined, Joins}
 
 -- the two pairs of an equivalence
 pub equivalent_joins :
@@ -75,23 +50,6 @@ module _ {frame : Frame} {formulas : List ℕ} {at : Size} {before : Store} {scr
         left = omega (arith, ap (λ (r : Row). r.a) e, o.0);
         right = omega (arith, ap (λ (r : Row). r.b) e, o.1);
       }
-
-  pub leaf_ready : w.kind < 3 → LeafReady frame at before (row_of w)
-  leaf_ready l =
-      record {
-        ready = a.ready;
-        kind = l;
-        unused = λ k. (variable_words a w e k).1;
-        variable = λ k. (variable_words a w e k).0;
-      }
-
-  pub leaf_done :
-      {after : Store} {r : Step} (b : Bool)
-      → w.kind < 3
-      → Builds (leaf_built frame.variables (side b) (row_of w)) frame at before after r
-      → Images (image_at frame formulas (side b) i) frame formulas at before after scratch scratch r
-  leaf_done b l x =
-      images_leaf (steady_image_at frame formulas (side b) i) a.memo (builds_as (of_leaf a w e b l) x)
 
 -- Its operands.
 module _ {frame : Frame} {formulas : List ℕ} {at : Size} {before : Store} {scratch : List ℕ} {i : ℕ}
@@ -131,3 +89,95 @@ pub asks_second :
     → AsksPair frame formulas (size_of r) after scratch' i
 asks_second {i = i} a x g long =
     record { asks = asks_next i a.asks x g long a.asks.formula; left = a.left; right = a.right }
+
+-- A builder of images stays the same one.
+pub same_images_itself : (b : ImageBuilder) → SameImages b b
+same_images_itself b = record { builder = same_itself b.builder; formulas = refl; scratch = refl; scratch_length = refl }
+
+pub same_images_twice : {b c d : ImageBuilder} → SameImages b c → SameImages c d → SameImages b d
+same_images_twice x y =
+    record {
+      builder = same_twice x.builder y.builder;
+      formulas = y.formulas ∙ x.formulas;
+      scratch = y.scratch ∙ x.scratch;
+      scratch_length = y.scratch_length ∙ x.scratch_length;
+    }
+
+-- Where it goes on from c, which stands where it came to from b.
+module _ {b c : ImageBuilder} (s : SameImages b c) where
+  pub asks_here : {i : ℕ} → AsksThere b c i → AsksImage c i
+  asks_here a = rw (s.builder.frame, s.formulas) a
+
+  pub later :
+      {d : ImageBuilder} {r : Result ℕ NoRoom} (p : Polarity) (i : ℕ) → Imaged (image_by c p i) c d r → Later (image_by b p i) b c d r
+  later p i x = record { images = rw (← s.builder.frame, ← s.formulas) x.images; same = same_images_twice s x.same }
+
+-- A step that is another one.
+pub later_as :
+    {m m' : Build ℕ} {b c d : ImageBuilder} {r : Result ℕ NoRoom} → m ≡ m' → Later m' b c d r → Later m b c d r
+later_as e x = record { images = images_as e x.images; same = x.same }
+
+-- A step of the tables alone.
+pub imaged_built :
+    {m : Build ℕ} {b : ImageBuilder} {c : Builder} {i : ℕ} {r : Result ℕ NoRoom} (p : Polarity)
+    → AsksImage b i
+    → image_by b p i ≡ m
+    → Built m b.builder c r
+    → Imaged (image_by b p i) b (record b { builder = c }) r
+imaged_built {b = b} {i = i} p a e x =
+    record {
+      images = images_leaf (steady_image_at b.builder.frame b.formulas.now p i) a.memo (builds_as e x.builds);
+      same = record { builder = x.same; formulas = refl; scratch = refl; scratch_length = refl };
+    }
+
+-- A row that stands.
+pub imaged_stands :
+    {b : ImageBuilder} {i : ℕ} (p : Polarity) (x : ℕ)
+    → AsksImage b i
+    → image_by b p i ≡ give x
+    → x < 2
+    → Imaged (image_by b p i) b b (Ok x)
+imaged_stands {b = b} p x a e small =
+    imaged_built p a e
+    (record { builds = builds_stands x a.ready (omega (arith, small, a.ready.two)); same = same_itself b.builder })
+
+-- The memo has it, in word k.
+pub imaged_known :
+    {b : ImageBuilder} {i k x : ℕ} (p : Polarity)
+    → AsksImage b i
+    → k ≡ memo_place b.builder.frame p i
+    → (1 ≤ get_or b.scratch.now k 0) × (x ≡ get_or b.scratch.now k 0 - 1)
+    → Imaged (image_by b p i) b b (Ok x)
+imaged_known {b = b} p a e known =
+    rw known.1 (record { images = images_known p a e (λ z. omega (arith, known.0)); same = same_images_itself b })
+
+-- A step for which there was no room, told onward by `?`.
+pub failed :
+    {m : Build ℕ} {b c d : ImageBuilder} {e : NoRoom} {r : Result ℕ NoRoom} → Later m b c d (Err e) → IsErr r → Later m b c d r
+failed {d = d} {r = r} x is = record { images = rw (step_failed d.builder r is) x.images; same = x.same }
+
+-- The left of a join, the right, then the join.
+module _ {p : Polarity} {m left right : Build ℕ} (j : Joins p m left right) {b c d : ImageBuilder} where
+  pub left_stops : {e : NoRoom} → Later left b c d (Err e) → Later m b c d (Err e)
+  left_stops x = record { images = left_full j x.images refl; same = x.same }
+
+  module _ {x : ℕ} (l : Later left b c d (Ok x)) {f : ImageBuilder} where
+    pub right_stops : {e : NoRoom} → Later right b d f (Err e) → Later m b c f (Err e)
+    right_stops y = record { images = right_full j l.images refl y.images refl; same = y.same }
+
+    module _ {y : ℕ} (r : Later right b d f (Ok y)) where
+      pub join_asks : JoinReady f.builder.frame (size_in f.builder) (store_in f.builder) x y
+      join_asks =
+          let k = l.images.builds.done refl in
+          let n = r.images.builds.done refl in
+          rw r.same.builder.frame
+          (record { ready = n.ready; left = omega (arith, k.below, n.grew); right = n.below })
+
+      pub joined_later :
+          {g : Builder} {z : Result ℕ NoRoom} → Built (join p x y) f.builder g z → Later m b c (record f { builder = g }) z
+      joined_later z =
+          record {
+            images = joined j l.images refl r.images refl (rw (← r.same.builder.frame) z.builds);
+            same =
+                same_images_twice r.same (record { builder = z.same; formulas = refl; scratch = refl; scratch_length = refl });
+          }

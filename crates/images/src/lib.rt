@@ -3,9 +3,15 @@
 #![tactic(auto)]
 
 mod cycle;
-mod leaves;
+mod literals;
 mod memo;
-mod sizes;
 
-pub use cycle::sided;
-pub use sizes::image_from;
+use formula_builder::Builder;
+
+// A builder of images: the source's formula words, the lent scratch, and the tables that building writes.
+#[derive(Drop)]
+pub struct ImageBuilder<'s, 't> {
+    pub formulas: &'s [u16],
+    pub scratch: &'s mut [u16],
+    pub builder: Builder<'t>,
+}

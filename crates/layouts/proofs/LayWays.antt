@@ -1,13 +1,12 @@
 -- Laying bytes out: how far each part reaches, and the ways out of the call. Assumes nothing.
 use Prim.Native.Nat.{ℕ, ◌+◌, ◌-◌, ◌*◌, ◌<◌, ◌≤◌}
 use native.Mathlib.Nat.{zero-add}
-use native.Mathlib.Numerals.{add-one}
 use native.Mathlib.Omega.{arith}
-use mathlib.Core.Path.{◌≡◌, sym, ap, ◌∙◌}
+use mathlib.Core.Path.{◌≡◌, ap, ◌∙◌}
 use mathlib.Core.Bool.{true, false}
 use mathlib.Core.List.{List, [], ◌∷◌, ◌++◌}
-use lib.ListN.{length, get_or, take, drop, replicate, length-replicate}
-use lib.Seq.{sets-eq, take-suc, take_at, take-append_seam}
+use lib.ListN.{length, take, drop, replicate, length-replicate}
+use lib.Seq.{sets-eq, take_at, take-append_seam}
 use lib.Dec.{leb}
 use borrow.Author.Tests.{le-leb, lt-leb}
 use Rattle.task.specs.declared.Head.{Head}
@@ -16,40 +15,10 @@ use Rattle.task.specs.Words.{joined, head_of, padded}
 use Rattle.task.proofs.Words.{lent_in, length_words, length_operator_words}
 use Rattle.file_format.specs.Bytes.{word_bytes, head_fields}
 use Rattle.task_writer.specs.Inner.Putting.{Put}
-use Rattle.task_writer.proofs.Puts.{put_none, put_then, put_same, put_size}
-use Rattle.task_file.proofs.ReadWays.{zeros_of, drop_zeros}
+use Rattle.task_writer.proofs.Puts.{put_then, put_size}
+use Rattle.std.proofs.lemmas.List.{drop-replicate}
 use Rattle.layouts.specs.Layout.{tables_bytes, laid_by, laid, Lays}
 use Rattle.layouts.specs.Inner.Giving.{flat_bytes}
-
--- what a loop has put after i bytes
-pub record BytesDone (bytes : List ℕ) (count at : ℕ) (before out : List ℕ) (i place : ℕ) : Type 0 where
-  pub within : i ≤ count
-  pub done : Put (take i bytes) at place before out
-  pub here : place ≡ at + i
-
-module _ (bytes : List ℕ) (count at : ℕ) (before : List ℕ) where
-  pub bytes_begin : BytesDone bytes count at before before 0 at
-  bytes_begin = record { within = omega arith; done = put_none at before; here = omega arith }
-
-  pub bytes_more :
-      (out : List ℕ) (i place : ℕ) {out' : List ℕ} {r : ℕ}
-      → BytesDone bytes count at before out i place
-      → i < count
-      → count ≤ length bytes
-      → Put (get_or bytes i 0 ∷ []) place r out out'
-      → BytesDone bytes count at before out' (i + 1) r
-  bytes_more out i place d h l p =
-      let b : i < length bytes = omega arith in
-      record {
-        within = omega arith;
-        done = put_same (sym (take-suc bytes i 0 b) ∙ ap (λ (n : ℕ). take n bytes) (sym (add-one i))) (put_then d.done p);
-        here = omega (arith, p.next, d.here);
-      }
-
-  pub bytes_end : (out : List ℕ) (i place : ℕ) → BytesDone bytes count at before out i place → count ≤ i → Put (take count bytes) at place before out
-  bytes_end out i place d h =
-      let e : i ≡ count = omega (arith, d.within) in
-      put_same (ap (λ (n : ℕ). take n bytes) e) d.done
 
 -- a part of each table behind the other
 pub tables_put :
@@ -85,11 +54,11 @@ module _ (bytes out : List ℕ) {z out' : List ℕ} {end : ℕ} (clear : z ≡ r
 
   -- past them all is 0
   pub put_padded : end ≤ length out' → out' ≡ padded (length out) bytes
-  unfolding padded zeros_of
+  unfolding padded
   put_padded h =
       let whole : out' ≡ bytes ++ drop (0 + length bytes) z = put.wrote ∙ sets-eq bytes z 0 (omega (arith, end_is, z_size, size)) in
       let rest : drop (0 + length bytes) z ≡ replicate (length out - length bytes) 0 =
-      ap (drop (0 + length bytes)) clear ∙ drop_zeros (length out) (0 + length bytes) ∙ ap (λ (k : ℕ). replicate (length out - k) 0) (zero-add (length bytes))
+      ap (drop (0 + length bytes)) clear ∙ drop-replicate (0 + length bytes) (length out) 0 ∙ ap (λ (k : ℕ). replicate (length out - k) 0) (zero-add (length bytes))
       in
       whole ∙ ap (λ (x : List ℕ). bytes ++ x) rest
 

@@ -1,30 +1,40 @@
 // The state and the sequence that come in for a run.
-ghost use Rattle.std.specs.Prelude.{◌≡◌, ◌++◌, ◌/◌, ◌≤◌, length, drop};
-ghost use Rattle.layouts.specs.Layout.{numbers_of};
-ghost use Rattle.layouts.specs.Layout.{run_number};
+ghost use Rattle.std.specs.Prelude.{◌≡◌, ◌++◌, ◌/◌, ◌%◌, ◌≤◌, ◌&&◌, length, drop, eqb};
+ghost use Rattle.task.specs.Check.{state_kept, sequence_kept};
+ghost use Rattle.task.specs.Refused.{told};
+ghost use Rattle.layouts.specs.Layout.{numbers_of, run_number};
 
-use task::check::bits;
+use task::check::{bits, refuse_unless};
+use task::refusal::Refusal;
 
-// 0, or the first in order: 16, 19, 20. Linear in the state.
-pub fn refused_run(variables: usize, state: &[u8], sequence: &[u8], room: usize) -> u32
-    ensures { result ≡ run_number variables state.now sequence.now room }
+// Whether these are bits of so many variables. Linear in the state.
+#[tactic(auto, unfolding(task::specs::Check::state_kept))]
+fn state_kept(variables: usize, state: &[u8]) -> bool
+    ensures { result ≡ state_kept variables state.now }
 {
-    if state.len() != variables {
-        return 16;
-    }
-    if !bits(state) {
-        return 16;
-    }
-    if sequence.len() % 2 != 0 {
-        return 19;
-    }
-    if 65535 < sequence.len() / 2 {
-        return 19;
-    }
-    if room < 16 {
-        return 20;
-    }
-    0
+    state.len() == variables && bits(state)
+}
+
+// Whether these are whole numbers, and not too many. Constant time.
+#[tactic(auto, using(crate::proofs::RunWays::numbers_length), unfolding(task::specs::Check::sequence_kept))]
+fn sequence_kept(sequence: &[u8]) -> bool
+    ensures { result ≡ eqb (length sequence.now % 2) 0 && sequence_kept (numbers_of sequence.now) }
+{
+    sequence.len() % 2 == 0 && sequence.len() / 2 <= 65535
+}
+
+// The first in order: 16, 19, 20. Linear in the state.
+pub fn refused_run(
+    variables: usize,
+    state: &[u8],
+    sequence: &[u8],
+    room: usize,
+) -> Result<(), Refusal>
+    ensures { told result ≡ run_number variables state.now sequence.now room }
+{
+    refuse_unless(state_kept(variables, state), Refusal::State)?;
+    refuse_unless(sequence_kept(sequence), Refusal::LongSequence)?;
+    refuse_unless(16 <= room, Refusal::ShortOutput)
 }
 
 // The operator numbers of a sequence of bytes, into the front of `numbers`; what stands behind them stays. Linear.
@@ -32,12 +42,7 @@ pub fn decode(sequence: &[u8], numbers: &mut [u16])
     requires { length sequence.now / 2 ≤ length numbers.old }
     ensures { numbers.new ≡ numbers_of sequence.now ++ drop (length sequence.now / 2) numbers.old }
 {
-    let count = sequence.len() / 2;
-    let mut i = 0;
-    while i < count {
-        let low = sequence[2 * i] as u16;
-        let high = sequence[2 * i + 1] as u16;
-        numbers[i] = low + 256 * high;
-        i += 1;
+    for i in 0..sequence.len() / 2 {
+        numbers[i] = u16::from_le_bytes([sequence[2 * i], sequence[2 * i + 1]]);
     }
 }

@@ -1,31 +1,18 @@
 -- Which number a change gives where, and what the outcome is by its number. Assumes nothing.
 use mathlib.Core.Path.{◌≡◌, refl, sym, ap, subst, ◌∙◌}
-use Prim.Native.Nat.{ℕ, zero, suc, ◌<◌, ◌≤◌}
+use Prim.Native.Nat.{ℕ, zero, suc, ◌<◌}
 use native.Mathlib.Nat.{suc-ne-zero}
-use mathlib.Core.Bool.{Bool, true, false, not}
+use mathlib.Core.Bool.{Bool, true, false}
 use mathlib.Core.List.{List, [], ◌∷◌}
 use lib.ListN.{length, get_or, set}
-use lib.Dec.{T, leb, ltb, leb→le, nleb→lt, ltb→lt, nltb→le}
+use lib.Dec.{T, ltb, ltb→lt}
 use Rattle.task.specs.Check.{unless}
-use Rattle.operator_records.specs.declared.OperatorRecord.{OperatorRecord}
+use Rattle.task.specs.declared.operator_rows.OperatorRecord.{OperatorRecord}
 use Rattle.operator_records.specs.Change.{number_of, with_percent, changed, change_by, change, ChangeGives}
-
-by-test : (b : Bool) (number otherwise r : ℕ) → (T (not b) → r ≡ number) → (T b → r ≡ otherwise) → r ≡ unless b number otherwise
-by-test true number otherwise r broken kept = kept tt
-by-test false number otherwise r broken kept = broken tt
 
 kept-at-zero : (b : Bool) (number otherwise : ℕ) → unless b (suc number) otherwise ≡ 0 → T b
 kept-at-zero true number otherwise is = tt
 kept-at-zero false number otherwise is = absurd (suc-ne-zero number is)
-
--- a number that keeps the three rules is the definition's
-pub by-rules : (count number percent r : ℕ) → (count ≤ number → r ≡ 17) → (number < count → 200 < percent → r ≡ 24) → (number < count → percent ≤ 200 → r ≡ 0)
-    → r ≡ number_of count number percent
-unfolding number_of
-by-rules count number percent r outside too-high changes =
-    by-test (ltb number count) 17 _ r (λ out. outside (nltb→le number count out)) (λ lt.
-    let inside = ltb→lt number count lt in
-    by-test (leb percent 200) 24 0 r (λ high. too-high inside (nleb→lt percent 200 high)) (λ le. changes inside (leb→le percent 200 le)))
 
 -- where the answer is 0, the number lies within the list
 pub within : (count number percent : ℕ) → number_of count number percent ≡ 0 → number < count

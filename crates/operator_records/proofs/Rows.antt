@@ -18,7 +18,7 @@ use Rattle.task.specs.Table.{Operator, operator_width, operator_at}
 use Rattle.task.specs.Words.{operator_row_words}
 use Rattle.task.specs.Inner.Stored.{operator_stored}
 use Rattle.task.proofs.Stores.{four_sets, length_operator_stored}
-use Rattle.operator_records.specs.declared.OperatorRecord.{OperatorRecord}
+use Rattle.task.specs.declared.operator_rows.OperatorRecord.{OperatorRecord}
 use Rattle.operator_records.specs.Rows.{as_record, as_operator, no_record, holds, row_record, with_record}
 
 pub record_inside : (t : List ℕ) (i : ℕ) → operator_width * i + operator_width ≤ length t → as_record (operator_at t i) ≡ row_record t i

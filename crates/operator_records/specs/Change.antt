@@ -1,7 +1,7 @@
 -- What changing one percent gives (02, K2): the answer and all records at exit, from the inputs alone.
 use Rattle.std.specs.Prelude.{ℕ, zero, suc, ◌≡◌, List, [], ◌∷◌, length, leb, ltb}
 use Rattle.task.specs.Check.{unless}
-use Rattle.operator_records.specs.declared.OperatorRecord.{OperatorRecord}
+use Rattle.task.specs.declared.operator_rows.OperatorRecord.{OperatorRecord}
 
 -- 17, a number outside the list, then 24, a percent above 200, then 0. Number 0 of an empty list at 201 gets 17: with 24 first it would get 24.
 -- Percent 200 gets 0: with "200 or more" it would get 24. A number that is the count gets 17: with "above the count" it would get 0.

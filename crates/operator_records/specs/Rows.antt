@@ -2,7 +2,7 @@
 use Rattle.std.specs.Prelude.{ℕ, ◌+◌, ◌*◌, Bool, cond, List, ◌++◌, length, take, drop, leb}
 use Rattle.task.specs.Table.{Operator, operator_width, operator, operator_at}
 use Rattle.task.specs.Words.{operator_row_words}
-use Rattle.operator_records.specs.declared.OperatorRecord.{OperatorRecord}
+use Rattle.task.specs.declared.operator_rows.OperatorRecord.{OperatorRecord}
 
 -- an operator as a record, and a record as an operator
 abbrev pub as_record : Operator → OperatorRecord

@@ -5,12 +5,4 @@
 pub mod change;
 pub mod row_records;
 
-// An operator's row as a record.
-#[repr(C)]
-#[derive(Clone, Copy)]
-pub struct OperatorRecord {
-    pub precondition: u16,
-    pub effect: u16,
-    pub cost: u16,
-    pub percent: u16,
-}
+pub use task::operator_rows::OperatorRecord;

@@ -7,12 +7,15 @@ ghost use Rattle.operator_records.specs.Rows.{row_record, with_record};
 
 use operator_records::OperatorRecord;
 
-// Changes the percent of the operator with that number, and no other record; a refusal changes nothing.
+// Changes the percent of the operator with that number, and no other record; a refusal changes nothing. Answers 0, or the refusal's number.
 #[unsafe(no_mangle)]
 pub extern "C" fn set_percent(records: &mut [OperatorRecord], number: u16, percent: u16) -> u16
     ensures { ChangeGives (change records.old number percent) result records.new }
 {
-    operator_records::change::set_percent(records, number, percent)
+    match operator_records::change::set_percent(records, number, percent) {
+        Ok(()) => 0,
+        Err(refusal) => refusal.number(),
+    }
 }
 
 // The record of row `number` of an operator table; all words 0 where the table does not hold that row.

@@ -11,8 +11,7 @@ use Rattle.task.specs.Table.{Task}
 use Rattle.task.specs.Semantics.{effcond, sets, clears, value_after, apply}
 use Rattle.task.specs.Run.{Progress, stopped, effect_of_operator, applicable, after_step, answer, run_on}
 use Rattle.task.proofs.Bounded.{length_upto, getD_upto}
-use Rattle.operator_step.specs.declared.Taken.{Taken}
-use Rattle.operator_step.specs.Inner.Steps.{StateReady, Took, took_by, took, Takes}
+use Rattle.operator_step.specs.Inner.Steps.{StateReady, Taken, Took, took_by, took, Takes}
 
 -- a step of the plain run, by what a step gives
 module _ (t : Task) (p : Progress) (o : ℕ) (rest : List ℕ) where

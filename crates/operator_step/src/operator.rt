@@ -1,73 +1,70 @@
 // The operator of a step: it is looked up, tested and carried out.
-ghost use Rattle.std.specs.Prelude.{◌*◌, ◌≤◌, ◌≡◌, length, get_or};
-ghost use Rattle.task.specs.Bounded.{upto};
+ghost use Rattle.std.specs.Prelude.{◌*◌, ◌≤◌, ◌≡◌, length};
 ghost use Rattle.task.specs.Check.{unless};
-ghost use Rattle.task.specs.Rules.{no_operator};
-ghost use Rattle.task.specs.Table.{operator_width, operator_at};
-ghost use Rattle.operator_step.specs.Inner.Steps.{running, Ready, Takes, Scratched};
+ghost use Rattle.task.specs.Lending.{lent_tables, operator_of};
+ghost use Rattle.task.specs.Refused.{told};
+ghost use Rattle.task.specs.Run.{operator_of as operator_of_task};
+ghost use Rattle.task.specs.Table.{operator_width, task_of};
+ghost use Rattle.operator_step.specs.Inner.Steps.{Ready, Takes, taken_answered, Scratched};
 
-use crate::Taken;
-use task::Head;
-use task::operator_rows::{charge_of, effect_of, precondition_of};
+use task::operator_rows::{OperatorRecord, operator_at};
+use task::refusal::Refusal;
+use task::tables::Tables;
 
-// The formula that operator `number` asks for, row 0 if it is not there. Constant time.
-fn asked(count: u16, operators: &[u16], number: u16) -> usize
-    requires { operator_width * count ≤ length operators.now }
-    ensures { result ≡ (get_or (upto count (operator_at operators.now)) number no_operator).precondition }
+// Operator `number`, or one of zeros if it is not there. Constant time.
+fn asked(tables: &Tables<'_>, number: u16) -> OperatorRecord
+    requires { operator_width * tables.now.head.operators ≤ length tables.now.operators.now }
+    ensures { operator_of result ≡ operator_of_task (task_of (lent_tables tables.now)) number }
 {
-    if count <= number {
-        return 0;
+    if tables.head.operators <= number {
+        return OperatorRecord {
+            precondition: 0,
+            effect: 0,
+            cost: 0,
+            percent: 0,
+        };
     }
-    precondition_of(operators, number as usize) as usize
+    operator_at(tables.operators, number as usize)
 }
 
-// What stops a step: 17 comes before 18. Constant time.
-fn stop_of(there: bool, applicable: bool) -> u16
-    ensures { result ≡ unless there 17 (unless applicable 18 0) }
+// What stops a step: that the operator is not there comes first. Constant time.
+fn stop_of(there: bool, applicable: bool) -> Result<(), Refusal>
+    ensures { told result ≡ unless there 17 (unless applicable 18 0) }
 {
     if !there {
-        return 17;
+        return Err(Refusal::NoOperator);
     }
     if !applicable {
-        return 18;
+        return Err(Refusal::NotApplicable);
     }
-    0
+    Ok(())
 }
 
-// Operator `number` is carried out if it is there and applicable. Linear in the formulas and the effects: each formula is evaluated
-// once, and those behind the precondition only if nothing stops the step.
+// Operator `number` is carried out if it is there and applicable; what it is charged is told. Linear in the formulas and the effects: each formula
+// is evaluated once, and those behind the precondition only if nothing stops the step.
 pub fn take(
-    head: Head,
-    formulas: &[u16],
-    effects: &[u16],
-    operators: &[u16],
+    tables: &Tables<'_>,
     state: &mut [u8],
     number: u16,
     scratch: &mut [u8],
-) -> Taken
-    requires { Ready head formulas.now effects.now operators.now state.old scratch.old }
-    ensures takes { Takes (running head formulas.now effects.now operators.now) state.old number result state.new }
-    ensures scratched { Scratched head formulas.now effects.now operators.now state.old number result scratch.old scratch.new }
+) -> Result<u32, Refusal>
+    requires { Ready (lent_tables tables.now) state.old scratch.old }
+    ensures takes { Takes (task_of (lent_tables tables.now)) state.old number (taken_answered result) state.new }
+    ensures scratched { Scratched (lent_tables tables.now) state.old number (taken_answered result) scratch.old scratch.new }
 {
-    let count = head.formulas as usize;
-    let precondition = asked(head.operators, operators, number);
-    let applicable = evaluating::holds(formulas, precondition, state, scratch);
-    let stop = stop_of(number < head.operators, applicable);
-    if stop != 0 {
-        return Taken { stop, charge: 0 };
-    }
-    let effect = effect_of(operators, number as usize) as usize;
+    let head = tables.head;
+    let operator = asked(tables, number);
+    let precondition = operator.precondition as usize;
+    let applicable = evaluating::holds(tables.formulas, precondition, state, scratch);
+    stop_of(number < head.operators, applicable)?;
     applying::carry_out(
-        formulas,
+        tables.formulas,
         precondition + 1,
-        count,
-        effects,
-        effect,
+        head.formulas as usize,
+        tables.effects,
+        operator.effect as usize,
         state,
         scratch,
     );
-    Taken {
-        stop: 0,
-        charge: charge_of(operators, number as usize) as u64,
-    }
+    Ok(operator.charge())
 }

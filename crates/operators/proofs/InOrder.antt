@@ -1,6 +1,5 @@
 -- Building an operator, and operators in order, only adds. Assumes nothing.
-use Prim.Native.Nat.{ℕ, ◌+◌}
-use native.Mathlib.Omega.{arith}
+use Prim.Native.Nat.{ℕ, ◌≤◌}
 use mathlib.Core.List.{List}
 use Rattle.task.specs.Table.{operator_at}
 use Rattle.normal_form.specs.Builder.{St, plain}
@@ -29,9 +28,10 @@ module _ (frame : Frame) (formulas effects operators : List ℕ) where
       let source = operator_at operators o in
       steady_operator_built frame formulas effects source.precondition source.effect
 
-  -- one more operator
+  -- more operators
   pub more_grows :
-      (s : St) (n : ℕ)
-      → Grows (operators_built frame formulas effects operators n s).st (operators_built frame formulas effects operators (n + 1) s).st
+      (s : St) (n m : ℕ)
+      → n ≤ m
+      → Grows (operators_built frame formulas effects operators n s).st (operators_built frame formulas effects operators m s).st
   unfolding operators_built
-  more_grows s n = each_grows (operator_here frame formulas effects operators) s steady_here n (n + 1) (omega arith)
+  more_grows s n m h = each_grows (operator_here frame formulas effects operators) s steady_here n m h

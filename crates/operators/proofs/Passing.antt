@@ -9,8 +9,7 @@ use Rattle.task.specs.Semantics.{Effect}
 use Rattle.normal_form.specs.Builder.{St, Got, Build, give, bind, each}
 use Rattle.normal_form.specs.Operators.{Changes, deletes_of, changes_of}
 use Rattle.formula_builder.specs.declared.Frame.{Frame}
-use Rattle.formula_builder.specs.declared.Size.{Size}
-use Rattle.formula_builder.specs.Inner.Held.{Store, held}
+use Rattle.formula_builder.specs.Inner.Held.{Size, Store, held}
 use Rattle.conditions.specs.Inner.Conditions.{effect_tree, condition_at, Unnamed}
 use Rattle.variable_changes.specs.Inner.Stands.{Reaches}
 use Rattle.atom_sets.specs.Inner.Sets.{lacks, set_from}

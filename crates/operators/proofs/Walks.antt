@@ -3,47 +3,33 @@ use Prim.Native.Nat.{ℕ, ◌+◌, ◌≤◌, ◌<◌}
 use native.Mathlib.Omega.{arith}
 use native.Mathlib.Numerals.{add-one}
 use mathlib.Core.Path.{◌≡◌, refl, sym, ap, ◌∙◌}
-use mathlib.Core.Bool.{Bool, true, false, true≢false}
+use mathlib.Core.Bool.{Bool, true, false, true≢false, false≢true}
 use mathlib.Core.List.{List, [], ◌∷◌, ◌++◌}
 use lib.ListN.{length}
+use Rattle.std.specs.Prelude.{Result, Ok, Err}
+use Rattle.std.specs.Result.{IsErr}
+use Rattle.formula_builder.specs.declared.NoRoom.{NoRoom}
+use Rattle.operators.specs.declared.Tally.{Tally as Answer}
 use Rattle.normal_form.specs.Builder.{St, give, bind, each, plain}
 use Rattle.normal_form.proofs.ShapeSizes.{each_grows}
 use Rattle.normal_form.specs.Operators.{Changes, changes_of}
 use Rattle.normal_form.proofs.Growth.{steady_each}
 use Rattle.normal_form.proofs.Steady.{steady_changes}
 use Rattle.formula_builder.specs.declared.Frame.{Frame}
-use Rattle.formula_builder.specs.declared.Size.{Size}
-use Rattle.formula_builder.specs.declared.Step.{Step}
-use Rattle.formula_builder.specs.Inner.Held.{Store, held, size_of}
+use Rattle.formula_builder.specs.Inner.Held.{Size, Step, Store, held, size_of, size_in, store_in}
 use Rattle.formula_builder.proofs.Steps.{within_before}
 use Rattle.images.specs.Inner.Images.{image_at, Images}
 use Rattle.images.proofs.Memos.{steady_image_at}
-use Rattle.conditions.specs.Inner.Conditions.{effect_tree, Noted}
-use Rattle.variable_changes.specs.Inner.Stands.{Stands, StandsAt, Leaves, Reaches, Makes, made}
+use Rattle.conditions.specs.declared.ConditionBuilder.{ConditionBuilder}
+use Rattle.conditions.specs.Inner.Conditions.{effect_tree, Noted, SameConditions}
+use Rattle.variable_changes.specs.Inner.Stands.{Stands, StandsAt, Reaches, Makes, MakesBy, LeavesBy, changes_by}
 use Rattle.conditions.proofs.Memos.{conditions_of_images}
 use Rattle.variable_changes.proofs.Standing.{stands_next, stands_at_next}
 use Rattle.atom_sets.specs.Inner.Sets.{InSet}
-use Rattle.variable_changes.specs.declared.Change.{Change}
 use Rattle.change_records.specs.Inner.Recorded.{Keeps, Opens, Recorded}
 use Rattle.change_records.proofs.Keeping.{recorded_none, recorded_few, recorded_more}
-use Rattle.operators.specs.declared.Tally.{Tally}
-use Rattle.operators.specs.Inner.Operator.{all_changes, operator_built, LooksOn, NextTouched, BuildsOperator, size_behind, Walked, OperatorWalked}
+use Rattle.operators.specs.Inner.Operator.{all_changes, operator_built, LooksOn, NextTouched, BuildsOperator, Tally, size_behind, Walked, OperatorWalked, WalkedBy, changes_of_all, tally_at, tally_by, tally_of}
 use Rattle.operators.proofs.Passing.{stretch_passed, reaches_alike, recorded_alike}
-
--- One variable's change asks and leaves the same for a frame that is the same, as five numbers.
-module _ {f g : Frame} (same : f ≡ g) {formulas effects notes : List ℕ} {at : Size} {before : Store} {scratch : List ℕ} (v e : ℕ) where
-  pub change_asks :
-      StandsAt g formulas effects notes at before scratch e × (v < g.variables)
-      → StandsAt f formulas effects notes at before scratch e × (v < f.variables)
-  change_asks x = rw same x
-
-  pub change_made :
-      {after : Store} {full : Bool} {next : Size} {x : Changes}
-      → Makes (changes_of f.variables (effect_tree f formulas effects e) v) f formulas effects at before after scratch full next x
-      × Leaves full f formulas effects notes next after
-      → Makes (changes_of g.variables (effect_tree g formulas effects e) v) g formulas effects at before after scratch full next x
-      × Leaves full g formulas effects notes next after
-  change_made x = rw (← same) x
 
 -- nothing is built
 makes_give :
@@ -100,18 +86,18 @@ module _ (frame : Frame) (formulas effects : List ℕ) (e : ℕ) where
         })
 
     more_recorded :
-        {after : Store} {s3 : List ℕ} {full : Bool} {next : Size} {from k to : ℕ} {l m n : List ℕ} (c : Change)
+        {after : Store} {s3 : List ℕ} {full : Bool} {next : Size} {from k to : ℕ} {l m n : List ℕ} (d : Changes)
         → Recorded (all_changes frame formulas effects e v (held at before)).value from l m k
-        → Makes (changes_of frame.variables (effect_tree frame formulas effects e) v) frame formulas effects here mid after s3 full next (made v c)
+        → Makes (changes_of frame.variables (effect_tree frame formulas effects e) v) frame formulas effects here mid after s3 full next d
         → full ≡ false
-        → Recorded (made v c ∷ []) k m n to
+        → Recorded (d ∷ []) k m n to
         → Recorded (all_changes frame formulas effects e (v + 1) (held at before)).value from l n to
     unfolding all_changes each bind give
-    more_recorded {from = from} {to = to} {l = l} {n = n} c r y q z =
+    more_recorded {from = from} {to = to} {l = l} {n = n} d r y q z =
         let all = each v (changes_of frame.variables (effect_tree frame formulas effects e)) (held at before) in
         let step : St → Changes = λ t. (changes_of frame.variables (effect_tree frame formulas effects e) v t).value in
-        let last : step all.st ≡ made v c = ap step (x.done refl).state ∙ y.value q in
-        let same = ap (λ (d : Changes). all.value ++ (d ∷ [])) last in
+        let last : step all.st ≡ d = ap step (x.done refl).state ∙ y.value q in
+        let same = ap (λ (x : Changes). all.value ++ (x ∷ [])) last in
         rw (add-one v) (as_recorded same (recorded_more r z))
 
   -- no room for a part is no room for all
@@ -221,28 +207,28 @@ module _ {frame : Frame} {formulas effects notes : List ℕ} {e : ℕ} {at : Siz
           limit = omega (arith, o.limit, w.few, w.below, a.stands.ready.variables);
         }
 
-    module _ {after : Store} {s3 : List ℕ} {there : Size} (c : Change)
-        (y : Makes (changes_of frame.variables (effect_tree frame formulas effects e) v) frame formulas effects here mid after s3 c.full there (made v c))
+    module _ {after : Store} {s3 : List ℕ} {there : Size} {full : Bool} {d : Changes}
+        (y : Makes (changes_of frame.variables (effect_tree frame formulas effects e) v) frame formulas effects here mid after s3 full there d)
       where
         pub walking-stops :
             {n : List ℕ} {r : Tally}
             → v < frame.variables
-            → c.full ≡ true
+            → full ≡ true
             → r.full ≡ true
             → Walked (all_changes frame formulas effects e frame.variables) frame formulas effects at before after s3 from l n r
-        walking-stops h q full =
+        walking-stops h q over =
             record {
               reaches =
-                  rw full
+                  rw over
                   (changes_stop frame formulas effects e (v + 1) frame.variables (omega arith)
                   (rw q at (changes_more frame formulas effects e v w.reaches y.reaches)));
-              recorded = λ z. absurd (true≢false (sym full ∙ z));
+              recorded = λ z. absurd (true≢false (sym over ∙ z));
             }
 
         pub walking-more :
             {n notes' : List ℕ} {to next : ℕ}
-            → c.full ≡ false
-            → Recorded (made v c ∷ []) k m n to
+            → full ≡ false
+            → Recorded (d ∷ []) k m n to
             → Noted frame formulas effects notes' (held there after)
             → NextTouched frame notes' e (v + 1) next
             → Walking frame formulas effects e at before after s3 from l n there to next
@@ -251,19 +237,16 @@ module _ {frame : Frame} {formulas effects notes : List ℕ} {e : ℕ} {at : Siz
             (record {
               below = omega (arith, n.above, n.below);
               reaches = rw q at (changes_more frame formulas effects e v w.reaches y.reaches);
-              recorded = more_recorded frame formulas effects e v w.reaches c w.recorded y q z;
+              recorded = more_recorded frame formulas effects e v w.reaches d w.recorded y q z;
               few = omega (arith, recorded_few z, w.few);
             })
             noted n
 
     pub walking_ends :
-        {r : Tally}
-        → frame.variables ≤ v
-        → r ≡ record { rows = here.rows; twins = here.twins; row = 0; records = k; full = false }
-        → Walked (all_changes frame formulas effects e frame.variables) frame formulas effects at before mid s2 from l m r
-    walking_ends h is =
-        rw is
-        (all_walked frame formulas effects e _ v frame.variables (omega (arith, w.below)) w.reaches w.recorded)
+        frame.variables ≤ v
+        → Walked (all_changes frame formulas effects e frame.variables) frame formulas effects at before mid s2 from l m
+        (record { rows = here.rows; twins = here.twins; row = 0; records = k; full = false })
+    walking_ends h = all_walked frame formulas effects e _ v frame.variables (omega (arith, w.below)) w.reaches w.recorded
 
 -- The precondition, then all changes.
 module _ (frame : Frame) (formulas effects : List ℕ) (p e : ℕ) {at : Size} {before mid : Store} {s1 s2 : List ℕ} {f : Step}
@@ -285,16 +268,15 @@ module _ (frame : Frame) (formulas effects : List ℕ) (p e : ℕ) {at : Size} {
       }
 
   pub precondition_full :
-      {from : ℕ} {l m : List ℕ} {r : Tally}
+      {from : ℕ} {l m : List ℕ}
       → f.full ≡ true
-      → r ≡ record { rows = f.rows; twins = f.twins; row = 0; records = from; full = true }
-      → OperatorWalked frame formulas effects p e at before mid s2 from l m r
-  precondition_full q same =
-      rw same
-      (record {
+      → OperatorWalked frame formulas effects p e at before mid s2 from l m
+      (record { rows = f.rows; twins = f.twins; row = 0; records = 0; full = true })
+  precondition_full q =
+      record {
         walked = record { reaches = precondition_over q; recorded = λ z. absurd (true≢false z) };
         precondition = λ z. absurd (true≢false z);
-      })
+      }
 
   operator_done :
       {after : Store} {s3 : List ℕ} {full : Bool} {next : Size}
@@ -335,16 +317,78 @@ module _ (frame : Frame) (formulas effects : List ℕ) (p e : ℕ) {at : Size} {
   value_is = ap (λ (t : St). (all_changes frame formulas effects e frame.variables t).value) (x.builds.done q).state
 
   pub operator_walked :
-      {r : Tally}
-      → r ≡ record { rows = w.rows; twins = w.twins; row = f.row; records = w.records; full = w.full }
-      → OperatorWalked frame formulas effects p e at before after s3 from l m r
-  operator_walked is =
-      rw is
-      (record {
+      OperatorWalked frame formulas effects p e at before after s3 from l m
+      (record { rows = w.rows; twins = w.twins; row = f.row; records = w.records; full = w.full })
+  operator_walked =
+      record {
         walked =
             record {
               reaches = operator_done frame formulas effects p e x q y.reaches;
               recorded = λ z. as_recorded value_is (y.recorded z);
             };
         precondition = λ _. (x.builds.done q).value;
-      })
+      }
+
+-- without room it is left open which row that is
+pub operator_full :
+    {frame : Frame} {formulas effects : List ℕ} {p e : ℕ} {at : Size} {before after : Store} {scratch : List ℕ} {from : ℕ} {l m : List ℕ} {r s : Tally}
+    → OperatorWalked frame formulas effects p e at before after scratch from l m r
+    → r.full ≡ true
+    → s.full ≡ true
+    → size_behind s ≡ size_behind r
+    → OperatorWalked frame formulas effects p e at before after scratch from l m s
+operator_full {r = r} x q g same =
+    record {
+      walked =
+          record {
+            reaches = rw (g, same) (rw q at x.walked.reaches);
+            recorded = λ z. absurd (true≢false (sym g ∙ z));
+          };
+      precondition = λ z. absurd (true≢false (sym g ∙ z));
+    }
+
+-- Where the loop of a builder of conditions stands.
+pub record WalkingBy (b c : ConditionBuilder) (e from : ℕ) (l m : List ℕ) (k v : ℕ) : Type 0 where
+  pub same : SameConditions b c
+  pub walking :
+      Walking b.images.builder.frame b.images.formulas.now b.effects.now e (size_in b.images.builder) (store_in b.images.builder)
+      (store_in c.images.builder) c.images.scratch.now from l m (size_in c.images.builder) k v
+  pub noted :
+      Noted b.images.builder.frame b.images.formulas.now b.effects.now c.notes.now (held (size_in c.images.builder) (store_in c.images.builder))
+  pub long : length m ≡ length l
+
+-- what is looked for there, and what one variable's change leaves
+module _ {b c : ConditionBuilder} (s : SameConditions b c) where
+  pub looks_here : {e from : ℕ} → LooksOn b.images.builder.frame c.notes.now e from → LooksOn c.images.builder.frame c.notes.now e from
+  looks_here x = rw s.images.builder.frame x
+
+  pub touched_here :
+      {e from next : ℕ} → NextTouched c.images.builder.frame c.notes.now e from next → NextTouched b.images.builder.frame c.notes.now e from next
+  touched_here x = rw (← s.images.builder.frame) x
+
+  module _ (d : ConditionBuilder) where
+    pub change_here :
+        {full : Bool} {x : Changes} (e v : ℕ)
+        → MakesBy (changes_by c e v) c d full x
+        → Makes (changes_by b e v) b.images.builder.frame b.images.formulas.now b.effects.now (size_in c.images.builder)
+        (store_in c.images.builder) (store_in d.images.builder) d.images.scratch.now full (size_in d.images.builder) x
+    change_here e v x = rw (← s.images.builder.frame, ← s.images.formulas, ← s.effects) x
+
+    pub leaves_here : {full : Bool} → LeavesBy c d full → LeavesBy b d full
+    leaves_here x = rw (← s.images.builder.frame, ← s.images.formulas, ← s.effects) x
+
+    pub walked_here :
+        {from : ℕ} {l n : List ℕ} {r : Tally} (e : ℕ)
+        → WalkedBy (changes_of_all c e) c d from l n r
+        → Walked (changes_of_all b e) b.images.builder.frame b.images.formulas.now b.effects.now (size_in c.images.builder)
+        (store_in c.images.builder) (store_in d.images.builder) d.images.scratch.now from l n r
+    walked_here e x = rw (← s.images.builder.frame, ← s.images.formulas, ← s.effects) x
+
+-- what `?` returns onward says that there was no room
+pub tally_failed : (b : ConditionBuilder) (r : Result ℕ NoRoom) → IsErr r → tally_by b r ≡ tally_at b 0 0 true
+tally_failed b (Ok x) h = absurd (false≢true h)
+tally_failed b (Err e) h = refl
+
+pub tally_of_failed : (b : ConditionBuilder) (r : Result Answer NoRoom) → IsErr r → tally_of b r ≡ tally_at b 0 0 true
+tally_of_failed b (Ok x) h = absurd (false≢true h)
+tally_of_failed b (Err e) h = refl

@@ -6,12 +6,9 @@ mod walk;
 
 pub use operator::build_operator;
 
-// So many rows and twins stand, the row of the precondition, and so many changes are recorded; or that there was no room for rows or twins.
-#[derive(Clone, Copy)]
+// An operator that is built: the row of its precondition, and so many changes are recorded.
+#[derive(Clone, Copy, Debug, PartialEq, Eq)]
 pub struct Tally {
-    pub rows: usize,
-    pub twins: usize,
     pub row: u16,
     pub records: usize,
-    pub full: bool,
 }

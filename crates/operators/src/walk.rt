@@ -1,15 +1,16 @@
 // The changes of all variables, upwards.
 ghost use Rattle.std.specs.Prelude.{◌≤◌, length};
-ghost use Rattle.formula_builder.specs.Inner.Held.{store};
+ghost use Rattle.formula_builder.specs.Inner.Held.{full_by};
 ghost use Rattle.atom_sets.specs.Inner.Sets.{InSet, sets_end};
-ghost use Rattle.variable_changes.specs.Inner.Stands.{StandsAt, Leaves};
+ghost use Rattle.conditions.specs.Inner.Conditions.{SameConditions};
+ghost use Rattle.variable_changes.specs.Inner.Stands.{StandsBy, LeavesBy};
 ghost use Rattle.change_records.specs.Inner.Recorded.{Opens};
-ghost use Rattle.operators.specs.Inner.Operator.{Passes, LooksOn, NextTouched, Walked, all_changes, size_behind};
+ghost use Rattle.operators.specs.Inner.Operator.{Passes, LooksOn, NextTouched, WalkedBy, changes_of_all, tally_by};
 
-use crate::Tally;
 use atom_sets::set_from;
 use change_records::keep_change;
-use formula_builder::{Frame, Size, words_of};
+use conditions::ConditionBuilder;
+use formula_builder::{Frame, NoRoom};
 use rule_writer::Changes;
 use variable_changes::change_of;
 
@@ -21,86 +22,58 @@ fn passed_at(notes: &[u16], frame: Frame, e: usize, v: usize) -> usize
 {
     let rest = set_from(notes, frame, v, e);
     if rest == 0 {
-        return 8 - v % 8;
+        8 - v % 8
+    } else if rest % 4 == 0 {
+        1
+    } else {
+        0
     }
-    if rest % 4 == 0 {
-        return 1;
-    }
-    0
 }
 
 // The first variable from one on of which effect e names an atom; V if there is none. At most a step for each that is passed over, one for eight
-// in a stretch that e leaves alone.
-fn next_touched(notes: &[u16], frame: Frame, e: usize, from: usize) -> usize
-    requires { LooksOn frame notes.now e from }
-    ensures { NextTouched frame notes.now e from result }
+// in a stretch that e leaves alone: so it is no `for`.
+fn next_touched(b: &ConditionBuilder<'_, '_, '_, '_>, e: usize, from: usize) -> usize
+    requires { LooksOn b.now.images.builder.frame b.now.notes.now e from }
+    ensures { NextTouched b.now.images.builder.frame b.now.notes.now e from result }
 {
-    let n = frame.variables;
+    let frame = b.images.builder.frame;
     let mut v = from;
-    while v < n {
-        let k = passed_at(notes, frame, e, v);
+    while v < frame.variables {
+        let k = passed_at(b.notes, frame, e, v);
         if k == 0 {
             return v;
         }
         v += k;
     }
-    n
+    frame.variables
 }
 
-// The changes of all variables are built, and recorded behind those that are; variables that the effect does not touch are passed over.
+// The changes of all variables are built, and recorded behind those that are; variables that the effect does not touch are passed over. Answers
+// how many are recorded then.
 pub fn build_changes(
-    formulas: &[u16],
-    effects: &[u16],
-    notes: &mut [u16],
+    b: &mut ConditionBuilder<'_, '_, '_, '_>,
     e: usize,
-    frame: Frame,
-    at: Size,
-    table: &mut [u16],
-    originals: &mut [u16],
-    scratch: &mut [u16],
     from: usize,
     records: &mut [u16],
-) -> Tally
-    requires { StandsAt frame formulas.now effects.now notes.old at (store table.old originals.old) scratch.old e × Opens from records.old }
-    ensures { Walked (all_changes frame formulas.now effects.now e frame.variables) frame formulas.now effects.now at (store table.old originals.old) (store table.new originals.new) scratch.new from records.old records.new result × Leaves result.full frame formulas.now effects.now notes.new (size_behind result) (store table.new originals.new) }
+) -> Result<usize, NoRoom>
+    requires { StandsBy b.old e × Opens from records.old }
+    ensures walked { WalkedBy (changes_of_all b.old e) b.old b.new from records.old records.new (tally_by b.new result) }
+    ensures leaves { LeavesBy b.old b.new (full_by result) }
+    ensures same { SameConditions b.old b.new }
 {
-    let n = frame.variables;
-    let words = words_of(frame);
-    let mut rows = at.rows;
-    let mut twins = at.twins;
+    let n = b.images.builder.frame.variables;
     let mut k = from;
-    let mut v = next_touched(notes, frame, e, 0);
+    let mut v = next_touched(b, e, 0);
     while v < n {
         let variable = v as u16;
-        let c = change_of(
-            formulas, effects, notes, e, variable, &words, &mut rows, &mut twins, table, originals,
-            scratch,
-        );
-        if c.full {
-            return Tally {
-                rows: rows,
-                twins: twins,
-                row: 0,
-                records: k,
-                full: true,
-            };
-        }
-        k = keep_change(
-            records,
-            k,
-            Changes {
-                variable: variable,
-                adds: c.adds,
-                deletes: c.deletes,
-            },
-        );
-        v = next_touched(notes, frame, e, v + 1);
+        let c = change_of(b, e, variable)?;
+        let changes = Changes {
+            variable,
+            adds: c.adds,
+            deletes: c.deletes,
+        };
+        k = keep_change(records, k, changes);
+        v = next_touched(b, e, v + 1);
     }
-    Tally {
-        rows: rows,
-        twins: twins,
-        row: 0,
-        records: k,
-        full: false,
-    }
+    Ok(k)
 }

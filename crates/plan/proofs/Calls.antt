@@ -4,44 +4,60 @@ use mathlib.Core.Path.{◌≡◌, refl, ap, ◌∙◌}
 use mathlib.Core.Bool.{false}
 use mathlib.Core.List.{List}
 use lib.ListN.{length, replicate}
-use Rattle.task.specs.Table.{Lent}
-use Rattle.task.specs.Run.{Run}
-use Rattle.operator_step.specs.Inner.Steps.{running}
-use Rattle.stepper.proofs.Calls.{same_run}
-use Rattle.plan.specs.declared.outcome.RunOutcome.{RunOutcome}
-use Rattle.plan.specs.declared.outcome.End.TheVariants.{Refused}
-use Rattle.plan.specs.Outcome.{run_refusal, cleared, run_refused, run_answer, run_told, run_by, ran, RunGives}
-use Rattle.plan.specs.Inner.Done.{RunDone}
+use Rattle.std.specs.Prelude.{Result}
+use Rattle.std.specs.Result.{IsErrAnd}
+use Rattle.task.specs.declared.refusal.Refusal.{Refusal}
+use Rattle.task.specs.Refused.{number_of}
+use Rattle.task.specs.Table.{Lent, task_of}
+use Rattle.task.proofs.Refusals.{number_some}
+use Rattle.operator_step.proofs.Taking.{refused}
+use Rattle.plan.specs.declared.outcome.RunOutcome.{RunOutcome as Outcome}
+use Rattle.plan.specs.Outcome.{RunOutcome, Refused, run_refusal, cleared, run_refused, run_told, run_by, ran, run_answered, RunGives}
+use Rattle.plan.specs.Inner.Done.{RunDone, RunTold}
 
--- the ways out of `run`
-module _ (l : Lent) (s numbers scratch : List ℕ) (number : ℕ) (asked : number ≡ run_refusal l s numbers scratch) where
+-- the ways out of `run_told`
+module _ (l : Lent) (s numbers scratch : List ℕ) where
   pub run_refuses :
-      (number ≡ 0 → ⊥)
-      → (rest : List ℕ)
-      → rest ≡ cleared scratch
-      → RunGives (ran l s numbers scratch) (record { steps = 0; cost = 0; goal = false; end = Refused number }) s rest
+      (e : Refusal)
+      → number_of e ≡ run_refusal l s numbers scratch
+      → (r : Result Outcome Refusal)
+      → IsErrAnd r (λ x. x ≡ e)
+      → RunTold (ran l s numbers scratch) (run_answered r) s
   unfolding ran run_by run_refused
-  run_refuses d rest z = rw (← asked) (go number d)
+  run_refuses e asked r given = rw (refused r e given, ← asked) (go (number_of e) (number_some e))
     where
       go :
           (n : ℕ)
           → (n ≡ 0 → ⊥)
-          → RunGives (run_by n l s numbers scratch) (record { steps = 0; cost = 0; goal = false; end = Refused n }) s rest
+          → RunTold (run_by n l s numbers scratch) (record { steps = 0; cost = 0; goal = false; end = Refused n }) s
       go zero d = absurd (d refl)
-      go (suc n) d = record { answer = refl; state = refl; scratch = z }
+      go (suc n) d = record { answer = refl; state = refl }
 
-  pub run_gives :
-      number ≡ 0
-      → (r : RunOutcome) (after mid rest : List ℕ)
-      → RunDone (running l.head l.formulas l.effects l.operators) s numbers r after
-      → length mid ≡ length scratch
-      → rest ≡ cleared mid
-      → RunGives (ran l s numbers scratch) r after rest
+  pub run_goes :
+      {r : RunOutcome} {after : List ℕ}
+      → 0 ≡ run_refusal l s numbers scratch
+      → RunDone (task_of l) s numbers r after
+      → RunTold (ran l s numbers scratch) r after
   unfolding ran run_by run_told
-  run_gives e r after mid rest done same z =
-      rw (← asked, e)
-      (record {
-        answer = done.answer ∙ ap run_answer (same_run l s numbers);
-        state = done.state ∙ ap (λ (w : Run). w.state) (same_run l s numbers);
-        scratch = z ∙ ap (λ (n : ℕ). replicate n 0) same;
-      })
+  run_goes free done = rw (← free) (record { answer = done.answer; state = done.state })
+
+-- scratch always ends as 0
+by_cleared : (n : ℕ) (l : Lent) (s numbers scratch : List ℕ) → cleared scratch ≡ (run_by n l s numbers scratch).scratch
+unfolding run_by run_refused run_told
+by_cleared zero l s numbers scratch = refl
+by_cleared (suc n) l s numbers scratch = refl
+
+pub run_gives :
+    (l : Lent) (s numbers scratch : List ℕ) {r : RunOutcome} {after : List ℕ} (mid : List ℕ) {rest : List ℕ}
+    → RunTold (ran l s numbers scratch) r after
+    → length mid ≡ length scratch
+    → rest ≡ cleared mid
+    → RunGives (ran l s numbers scratch) r after rest
+unfolding ran
+run_gives l s numbers scratch mid done same z =
+    record {
+      answer = done.answer;
+      state = done.state;
+      scratch =
+          z ∙ ap (λ (n : ℕ). replicate n 0) same ∙ by_cleared (run_refusal l s numbers scratch) l s numbers scratch;
+    }

@@ -10,11 +10,9 @@ use lib.Seq.{drop-cons, drop-length}
 use Rattle.task.specs.declared.Head.{Head}
 use Rattle.task.specs.Table.{Task}
 use Rattle.task.specs.Run.{Run, Progress, ended, stopped, goal_holds, answer, run_on, plain_run}
-use Rattle.operator_step.specs.declared.Taken.{Taken}
-use Rattle.operator_step.specs.Inner.Steps.{StateReady, took, Takes}
+use Rattle.operator_step.specs.Inner.Steps.{StateReady, Taken, took, Takes}
 use Rattle.operator_step.proofs.Going.{goes_on, stops, taken_ready}
-use Rattle.plan.specs.declared.outcome.End.TheVariants.{Ended, Stopped}
-use Rattle.plan.specs.Outcome.{end_of, run_answer}
+use Rattle.plan.specs.Outcome.{Ended, Stopped, end_of, run_answer}
 use Rattle.plan.specs.Inner.Done.{RunDone}
 
 -- the loop: what is left of the plain run stands before the numbers that are left

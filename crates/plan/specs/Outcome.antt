@@ -1,6 +1,8 @@
 -- What a run gives, refusals too (01, "Stepping and running" and "Where each number is given"): the answer, and the state and the scratch at
 -- exit, from the inputs alone. What a step gives is the stepper's, and is passed on.
-use Rattle.std.specs.Prelude.{ℕ, zero, suc, ◌≡◌, Bool, false, List}
+use Rattle.std.specs.Prelude.{ℕ, zero, suc, ◌≡◌, Bool, false, Result, Ok, Err, List}
+use Rattle.task.specs.declared.refusal.Refusal.{Refusal}
+use Rattle.task.specs.Refused.{number_of}
 use Rattle.task.specs.Table.{Lent, task_of}
 unfoldable pub use Rattle.task.specs.Check.{sequence_kept}
 use Rattle.task.specs.Check.{unless}
@@ -8,9 +10,35 @@ use Rattle.task.specs.Run.{Run, Stop, ended, stopped, plain_run}
 use Rattle.stepper.specs.Stepped.{first_of}
 unfoldable pub use Rattle.stepper.specs.Stepped.{state_kept, step_scratch_kept, early_refusal, step_refused, step_told, step_by, stepped}
 pub use Rattle.stepper.specs.Stepped.{Stepped, cleared, StepGives}
-use Rattle.plan.specs.declared.outcome.RunOutcome.{RunOutcome}
-use Rattle.plan.specs.declared.outcome.End.{End}
-use Rattle.plan.specs.declared.outcome.End.TheVariants.{Ended, Stopped, Refused}
+use Rattle.plan.specs.declared.outcome.RunOutcome.{RunOutcome as Outcome}
+use Rattle.plan.specs.declared.outcome.End.{End as Ending}
+use Rattle.plan.specs.declared.outcome.End.TheVariants as e
+
+-- How a run came to its end: every number was carried out, and whether the goal holds; 17 or 18, and the steps done before it; or the call was
+-- refused before its first number was looked at.
+pub data End : Type 0 where
+  Ended : Bool → End
+  Stopped : (number step : ℕ) → End
+  Refused : ℕ → End
+
+-- A run: the steps done, their summed cost, whether the goal holds in the last state, and how the run came to its end.
+pub record RunOutcome : Type 0 where
+  pub steps : ℕ
+  pub cost : ℕ
+  pub goal : Bool
+  pub end : End
+
+-- what the code answers, as that
+abbrev pub end_told : Ending → End
+end_told (e.Ended goal) = Ended goal
+end_told (e.Stopped number step) = Stopped (number_of number) step
+
+abbrev pub outcome_told : Outcome → RunOutcome
+outcome_told x = record { steps = x.steps; cost = x.cost; goal = x.goal; end = end_told x.end }
+
+abbrev pub run_answered : Result Outcome Refusal → RunOutcome
+run_answered (Ok x) = outcome_told x
+run_answered (Err r) = record { steps = 0; cost = 0; goal = false; end = Refused (number_of r) }
 
 -- what refuses a run: what refuses a step, then 19
 unfoldable pub run_refusal : Lent → (state numbers scratch : List ℕ) → ℕ

@@ -4,11 +4,16 @@ use native.Mathlib.Omega.{arith}
 use mathlib.Core.Path.{◌≡◌, refl, sym, ap, ◌∙◌, subst}
 use mathlib.Core.Bool.{Bool, true, false}
 use mathlib.Core.List.{List, ◌++◌}
-use lib.ListN.{length, take, replicate, length-append}
+use lib.ListN.{length, take, replicate, length-append, length-replicate}
 use lib.Pow.{pow_mono}
 use lib.Seq.{length-take-le, take-append_seam}
 use lib.Dec.{leb}
 use borrow.Author.Tests.{le-leb, lt-leb, leb-true}
+use prog.Memory.{up}
+use Rattle.std.specs.Prelude.{Result, Ok, Err}
+use Rattle.task.specs.declared.refusal.Refusal.{Refusal}
+use Rattle.task.specs.declared.refusal.Refusal.TheVariants as f
+use Rattle.task.specs.Refused.{told}
 use Rattle.task.specs.declared.Head.{Head}
 use Rattle.task.specs.Table.{Lent, task_of}
 use Rattle.task.specs.Check.{refusal, unless}
@@ -23,32 +28,28 @@ use Rattle.file_format.specs.Reading.{Lengths, Verdict, rejected, reading}
 use Rattle.task_writer.specs.Inner.Putting.{Put}
 use Rattle.task_writer.proofs.Puts.{put_then}
 use Rattle.stepper.specs.Stepped.{step_scratch_kept}
-use Rattle.cheapest_plan.specs.declared.CheapestOutcome.{CheapestOutcome}
 use Rattle.cheapest_plan.specs.Cheapest.{Pick, no_plan, plan_of, cheapest}
-use Rattle.cheapest_plan.specs.Planned.{few_variables, search_scratch_kept, search_refusal, plan_refused, plan_written, plan_told, planned_by, planned, Planned, PlanGives}
+use Rattle.cheapest_plan.specs.Planned.{few_variables, search_scratch_kept, search_refusal, CheapestOutcome, plan_refused, plan_written, plan_told, planned_by, planned, Planned, PlanGives}
 use Rattle.cheapest_plan.proofs.Cheapest.{plan_is_short}
-use Rattle.layouts.specs.Layout.{low_bytes}
+use Rattle.layouts.specs.Layout.{low_bytes, zeros}
 use Rattle.layouts.proofs.LayWays.{put_padded, size}
 use Rattle.layouts.proofs.RunWays.{low_next}
 use Rattle.layouts.proofs.Sizes.{length_word_bytes}
 use Rattle.entry_tables.proofs.Reading.{ReadAs, same_reading}
 use Rattle.plan_entry.specs.Entry.{nothing_planned, plan_bytes, plan_laid, plan_picked, plan_number, plan_given, plan_entry_by, plan_entry, PlanEntryGives}
-use Rattle.plan_entry.specs.Inner.Giving.{FreePlan, PlanIn, small_plan, SmallPlan}
+use Rattle.plan_entry.specs.Inner.Giving.{Clear, FreePlan, PlanIn, small_plan}
 
--- the refusals before the search, in order
-module _ (h : Head) (r : ℕ) where
-  pub many_variables : 10 < h.variables → 21 ≡ plan_number h r
-  unfolding plan_number few_variables
-  many_variables m = rw (lt-leb h.variables 10 m)
+-- a refusal leaves outputs that were clear
+pub nothing : {out result : List ℕ} {number n : ℕ} → Clear out result → n ≡ number → PlanEntryGives (nothing_planned number (length out) (length result)) n out result
+nothing clear told = record { told = told; written = clear.out_clear; held = clear.result_clear }
 
-  module _ (few : h.variables ≤ 10) where
-    pub short_result : r < 12 → 20 ≡ plan_number h r
-    unfolding plan_number few_variables
-    short_result s = rw (le-leb h.variables 10 few, lt-leb 12 r s)
-
-    pub none_refused : 12 ≤ r → 0 ≡ plan_number h r
-    unfolding plan_number few_variables
-    none_refused s = rw (le-leb h.variables 10 few, le-leb 12 r s)
+-- outputs that were cleared
+pub cleared_now : {out result : List ℕ} (o r : ℕ) → out ≡ zeros o → result ≡ zeros r → Clear out result
+cleared_now o r e d =
+    record {
+      out_clear = e ∙ ap zeros (sym (length-replicate {A = ℕ} o 0)) ∙ ap (λ (x : List ℕ). zeros (length x)) (sym e);
+      result_clear = d ∙ ap zeros (sym (length-replicate {A = ℕ} r 0)) ∙ ap (λ (x : List ℕ). zeros (length x)) (sym d);
+    }
 
 -- what no refusal says
 pub record Free (h : Head) (r : ℕ) : Type 0 where
@@ -74,41 +75,83 @@ few_states : (v : ℕ) → v ≤ 10 → 2 ^ v ≤ 1024
 few_states v h = pow_mono h
 
 -- room for a search that nothing refuses before it begins: by the limits, or by its few variables and rows
-pub full_room :
-    {l : Lent} {numbers scratch words : List ℕ} {r : ℕ}
-    → FreePlan l r
-    → length numbers ≡ 1023
-    → length scratch ≡ 8192
-    → length words ≡ 4096
-    → PlanIn l numbers scratch words r
-full_room {l} {numbers} {scratch} {words} {r} plan steps bytes states =
+pub full_room : {l : Lent} {r : ℕ} → FreePlan l r → PlanIn l 1023 8192 4096 r
+full_room {l} {r} plan =
     let c = (counts_tested l.head).0 (passed l plan.kept).counts in
     let f = free_of l.head r plan.free in
     record {
       plan = plan;
-      steps = omega (arith, steps, few_states l.head.variables f.few);
-      bytes = omega (arith, c.formulas, c.effects, bytes);
-      states = omega (arith, states, few_states l.head.variables f.few);
+      steps = omega (arith, few_states l.head.variables f.few);
+      bytes = omega (arith, c.formulas, c.effects);
+      states = omega (arith, few_states l.head.variables f.few);
+      few = (omega arith, omega arith, omega arith);
     }
 
-pub small_room :
-    {l : Lent} {numbers scratch words : List ℕ} {r : ℕ}
-    → SmallPlan l r
-    → length numbers ≡ 63
-    → length scratch ≡ 256
-    → length words ≡ 256
-    → PlanIn l numbers scratch words r
+pub small_room : {l : Lent} {r : ℕ} → FreePlan l r → small_plan l.head ≡ true → PlanIn l 63 256 256 r
 unfolding small_plan
-small_room {l} {numbers} {scratch} {words} {r} p steps bytes states =
+small_room {l} {r} plan small =
     let v : ℕ = l.head.variables in
     let rows : ℕ = l.head.formulas + l.head.effects in
-    let few : 2 ^ v ≤ 64 = pow_mono (leb-true v 6 (and_left (leb v 6) (leb rows 256) p.small)) in
+    let few : 2 ^ v ≤ 64 = pow_mono (leb-true v 6 (and_left (leb v 6) (leb rows 256) small)) in
     record {
-      plan = p.plan;
-      steps = omega (arith, steps, few);
-      bytes = omega (arith, bytes, leb-true rows 256 (and_right (leb v 6) (leb rows 256) p.small));
-      states = omega (arith, states, few);
+      plan = plan;
+      steps = omega (arith, few);
+      bytes = leb-true rows 256 (and_right (leb v 6) (leb rows 256) small);
+      states = omega (arith, few);
+      few = (omega arith, omega arith, omega arith);
     }
+
+-- the room of its own is of these sizes
+pub room_own :
+    {l : Lent} {a b c r : ℕ}
+    → PlanIn l a b c r
+    → PlanIn l (length (replicate {A = ℕ} a 0)) (length (replicate {A = ℕ} b 0)) (length (replicate {A = ℕ} c 0)) r
+room_own {a = a} {b} {c} i = rw (length-replicate {A = ℕ} a 0, length-replicate {A = ℕ} b 0, length-replicate {A = ℕ} c 0) i
+
+-- tables of one's own fit the memory
+pub own_fits :
+    {twins words operators : ℕ}
+    → (twins ≤ 256) × (words ≤ 12288) × (operators ≤ 1024)
+    → up 2 (up 2 (up 2 (up 2 (512 + twins * 2) + words * 2) + words * 2) + operators * 2) < 9223372036854775808
+own_fits {twins} {words} {operators} h =
+    let a = up_two (512 + twins * 2) in
+    let b = up_two (up 2 (512 + twins * 2) + words * 2) in
+    let c = up_two (up 2 (up 2 (512 + twins * 2) + words * 2) + words * 2) in
+    let d = up_two (up 2 (up 2 (up 2 (512 + twins * 2) + words * 2) + words * 2) + operators * 2) in
+    omega (arith, h)
+  where
+    up_two : (e : ℕ) → up 2 e ≤ e + 1
+    up_two e = omega arith
+
+-- no refusal but one is told as 5
+pub told_five : (r : Result (Unit {0}) Refusal) → told r ≡ 5 → r ≡ Err f.ShortTable
+told_five (Ok x) e = cc
+told_five (Err f.CutShort) e = cc
+told_five (Err f.SpareBit) e = cc
+told_five (Err f.NeedlessField) e = cc
+told_five (Err f.BytesBehind) e = cc
+told_five (Err f.ShortTable) e = refl
+told_five (Err f.Counts) e = cc
+told_five (Err f.Goal) e = cc
+told_five (Err f.InitialByte) e = cc
+told_five (Err f.Twin) e = cc
+told_five (Err f.Formula) e = cc
+told_five (Err f.Effect) e = cc
+told_five (Err f.Operator) e = cc
+told_five (Err f.SourceTwins) e = cc
+told_five (Err f.ShortScratch) e = cc
+told_five (Err f.NoRoom) e = cc
+told_five (Err f.State) e = cc
+told_five (Err f.NoOperator) e = cc
+told_five (Err f.NotApplicable) e = cc
+told_five (Err f.LongSequence) e = cc
+told_five (Err f.ShortOutput) e = cc
+told_five (Err f.ManyVariables) e = cc
+told_five (Err f.NoPlan) e = cc
+told_five (Err f.LongPlan) e = cc
+told_five (Err f.Percent) e = cc
+told_five (Err f.ValueCount) e = cc
+told_five (Err f.Value) e = cc
 
 -- a plan that is given, or is too long for the output
 module _ (numbers out result : List ℕ) (steps cost : ℕ) (inside : steps ≤ length numbers) where
@@ -121,40 +164,39 @@ module _ (numbers out result : List ℕ) (steps cost : ℕ) (inside : steps ≤ 
   abbrev Given : (r : ℕ) → (out' result' : List ℕ) → Type 0
   Given r out' result' = PlanEntryGives (plan_picked (plan_of (take steps numbers) cost) (length out) (length result)) r out' result'
 
-  pub too_long :
-      {r : ℕ} {out' result' : List ℕ}
-      → length out / 2 < steps
-      → PlanEntryGives (nothing_planned 23 (length out) (length result)) r out' result'
-      → Given r out' result'
+  pub too_long : length out / 2 < steps → Clear out result → Given 23 out result
   unfolding plan_picked
-  too_long h g = rw (lt-leb (2 * length plan) (length out) (omega (arith, whole))) g
+  too_long h clear =
+      rw (lt-leb (2 * length plan) (length out) (omega (arith, whole)))
+      (record { told = refl; written = clear.out_clear; held = clear.result_clear })
 
   pub gives_plan :
-      {z z' out' part result' : List ℕ} {a b c : ℕ}
+      {out' part result' : List ℕ} {a b c : ℕ}
       → steps ≤ length out / 2
       → 12 ≤ length result
-      → z ≡ replicate (length out) 0
-      → z' ≡ replicate (length result) 0
-      → Put (joined word_bytes plan) 0 a z out'
-      → Put (low_bytes 4 steps) 0 b z' part
+      → Clear out result
+      → Put (joined word_bytes plan) 0 a out out'
+      → Put (low_bytes 4 steps) 0 b result part
       → Put (low_bytes 8 cost) b c part result'
       → Given 0 out' result'
   unfolding plan_picked plan_laid plan_bytes
-  gives_plan {z} {z'} {out'} {part} {result'} {a} {b} {c} h room clear clear' p q s =
+  gives_plan {out'} {part} {result'} {a} {b} {c} h room clear p q s =
       let bytes : List ℕ = low_bytes 4 steps ++ low_bytes 8 cost in
-      let both : Put bytes 0 c z' result' = put_then q s in
+      let both : Put bytes 0 c result result' = put_then q s in
       let end : a ≡ 2 * steps = omega (arith, p.next, length_word_bytes plan, whole) in
       let fits : leb (2 * length plan) (length out) ≡ true = le-leb (2 * length plan) (length out) (omega (arith, whole)) in
       let last : c ≡ 12 = omega (arith, low_next 4 steps q, low_next 8 cost s) in
       rw (fits, whole)
       (record {
         told = refl;
-        written = put_padded (joined word_bytes plan) out clear p (omega (arith, size (joined word_bytes plan) out clear p));
-        held = put_padded bytes result clear' both (omega (arith, size bytes result clear' both));
+        written =
+            put_padded (joined word_bytes plan) out clear.out_clear p
+            (omega (arith, size (joined word_bytes plan) out clear.out_clear p));
+        held = put_padded bytes result clear.result_clear both (omega (arith, size bytes result clear.result_clear both));
       })
 
 -- the search's answer, where nothing refuses it before it begins
-module _ (l : Lent) (numbers scratch words : List ℕ) (r : ℕ) (i : PlanIn l numbers scratch words r) where
+module _ (l : Lent) (numbers scratch words : List ℕ) (r : ℕ) (i : PlanIn l (length numbers) (length scratch) (length words) r) where
   checked : Checked (task_of l)
   checked = (kept_rules l i.plan.kept).1
 
@@ -239,9 +281,9 @@ module _ (l : Lent) (numbers scratch words : List ℕ) (r : ℕ) (i : PlanIn l n
             absurd (d (ap (λ (x : CheapestOutcome). x.refusal) g.answer ∙ ap (λ (x : Planned). x.answer.refusal) w))
 
 -- by the refusals before the search
-number_of : (l : Lent) (r : ℕ) → refusal l ≡ 0 → plan_number (head_of (task_of l)) r ≡ plan_number l.head r
+number_kept : (l : Lent) (r : ℕ) → refusal l ≡ 0 → plan_number (head_of (task_of l)) r ≡ plan_number l.head r
 unfolding plan_number few_variables head_of
-number_of l r kept = rw (length_initial l (kept_rules l kept).0)
+number_kept l r kept = rw (length_initial l (kept_rules l kept).0)
 
 module _ (l : Lent) (o r : ℕ) (kept : refusal l ≡ 0) {number : ℕ} (told : number ≡ plan_number l.head r) {n : ℕ} {out' result' : List ℕ} where
   pub plan_kept :
@@ -249,14 +291,14 @@ module _ (l : Lent) (o r : ℕ) (kept : refusal l ≡ 0) {number : ℕ} (told : 
       → PlanEntryGives (plan_picked (cheapest (task_of l)) o r) n out' result'
       → PlanEntryGives (plan_given (plan_number (head_of (task_of l)) r) (task_of l) o r) n out' result'
   unfolding plan_given
-  plan_kept z g = rw (number_of l r kept ∙ sym told ∙ z) g
+  plan_kept z g = rw (number_kept l r kept ∙ sym told ∙ z) g
 
   pub plan_not_begun :
       (number ≡ 0 → ⊥)
       → PlanEntryGives (nothing_planned number o r) n out' result'
       → PlanEntryGives (plan_given (plan_number (head_of (task_of l)) r) (task_of l) o r) n out' result'
   unfolding plan_given
-  plan_not_begun d g = rw (number_of l r kept ∙ sym told) (go number d g)
+  plan_not_begun d g = rw (number_kept l r kept ∙ sym told) (go number d g)
     where
       go :
           (k : ℕ)
@@ -276,13 +318,12 @@ unfolding plan_entry_by
 plan_read o r t g = rw t.read g
 
 pub plan_no_file :
-    (m : Lengths) (file : List ℕ) (o r : ℕ) {k number n : ℕ} {out' result' : List ℕ}
+    (m : Lengths) (file : List ℕ) (o r : ℕ) {k n : ℕ} {out' result' : List ℕ}
     → reading m file ≡ rejected k
-    → number ≡ k
-    → PlanEntryGives (nothing_planned number o r) n out' result'
+    → PlanEntryGives (nothing_planned k o r) n out' result'
     → PlanEntryGives (plan_entry_by (reading m file) o r) n out' result'
 unfolding plan_entry_by
-plan_no_file m file o r e x g = rw e (rw x at g)
+plan_no_file m file o r e g = rw e g
 
 -- through tables of any lengths, any answer but 5 is the entry's
 pub plan_settled :

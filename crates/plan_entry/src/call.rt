@@ -1,238 +1,95 @@
-// The cheapest plan of a task file.
-ghost use Rattle.std.specs.Prelude.{◌≡◌, length};
-ghost use Rattle.task.specs.Table.{lent, task_of};
-ghost use Rattle.task.specs.Words.{head_of};
+// The cheapest plan of a task file. Both outputs are cleared before anything else, so that a refusal that `?` returns leaves them all 0.
+ghost use Rattle.std.specs.Prelude.{◌≡◌, ◌≤◌, length};
 ghost use Rattle.task.specs.Check.{refusal};
+ghost use Rattle.task.specs.Lending.{lent_tables};
+ghost use Rattle.task.specs.Refused.{told};
+ghost use Rattle.task.specs.Table.{task_of};
+ghost use Rattle.task.specs.Words.{head_of};
 ghost use Rattle.file_format.specs.Reading.{reading};
 ghost use Rattle.task_file.specs.Outcome.{lengths};
 ghost use Rattle.cheapest_plan.specs.Cheapest.{cheapest};
-ghost use Rattle.entry_tables.specs.Own.{small};
 ghost use Rattle.plan_entry.specs.Entry.{plan_picked, plan_number, plan_given, plan_entry_by, plan_entry, PlanEntryGives};
-ghost use Rattle.plan_entry.specs.Inner.Giving.{small_plan, FreePlan, SmallPlan, PlanIn};
+ghost use Rattle.plan_entry.specs.Inner.Giving.{small_plan, Clear, PlanIn};
 
 use crate::giving::give_plan;
-use crate::refusals::{refuse, refused_plan};
-use entry_tables::SMALL_OPERATOR_WORDS;
+use crate::refusals::refused_plan;
+use cheapest_plan::call::cheapest;
+use entry_tables::{
+    FULL_OPERATOR_WORDS, FULL_ROW_WORDS, FULL_TWINS, OwnTables, SMALL_OPERATOR_WORDS,
+    SMALL_ROW_WORDS, SMALL_TWINS,
+};
 use task::Head;
-use task::operator_rows::MOST_OPERATOR_WORDS;
-use task_file::ReadAnswer;
+use task::refusal::Refusal;
+use task::tables::Tables;
 
-// The search where nothing refuses it before it begins, with room lent for the longest plan and for scratch. What these hold afterwards is left open:
-// they end with the caller's call.
-fn plan_lent(
-    head: Head,
-    initial: &[u8],
-    twins: &[u16],
-    formulas: &[u16],
-    effects: &[u16],
-    operators: &[u16],
-    numbers: &mut [u16],
-    scratch: &mut [u8],
-    words: &mut [u32],
+// The search where nothing refuses it before it begins, in room of its own: for a plan of so many steps, and so many bytes and words of scratch.
+fn plan_in<const STEPS: usize, const BYTES: usize, const WORDS: usize>(
+    tables: &Tables<'_>,
     out: &mut [u8],
     res: &mut [u8],
-) -> u32
-    requires { PlanIn (lent head initial.now twins.now formulas.now effects.now operators.now) numbers.old scratch.old words.old (length res.old) }
-    ensures { PlanEntryGives (plan_picked (cheapest (task_of (lent head initial.now twins.now formulas.now effects.now operators.now))) (length out.old) (length res.old)) result out.new res.new }
+) -> Result<(), Refusal>
+    requires clear { Clear out.old res.old }
+    requires room { PlanIn (lent_tables tables.now) STEPS BYTES WORDS (length res.old) }
+    ensures { PlanEntryGives (plan_picked (cheapest (task_of (lent_tables tables.now))) (length out.old) (length res.old)) (told result) out.new res.new }
 {
-    let outcome = cheapest_plan::call::cheapest(
-        head, initial, twins, formulas, effects, operators, numbers, scratch, words,
-    );
-    if outcome.refusal != 0 {
-        return refuse(outcome.refusal as u32, out, res);
-    }
-    give_plan(numbers, outcome.steps, outcome.cost, out, res)
-}
-
-// At most 6 variables and few rows, in room of its own: 1.4 KiB.
-fn plan_small(
-    head: Head,
-    initial: &[u8],
-    twins: &[u16],
-    formulas: &[u16],
-    effects: &[u16],
-    operators: &[u16],
-    out: &mut [u8],
-    res: &mut [u8],
-) -> u32
-    requires { SmallPlan (lent head initial.now twins.now formulas.now effects.now operators.now) (length res.old) }
-    ensures { PlanEntryGives (plan_picked (cheapest (task_of (lent head initial.now twins.now formulas.now effects.now operators.now))) (length out.old) (length res.old)) result out.new res.new }
-{
-    let mut numbers = [0u16; 63];
-    let mut scratch = [0u8; 256];
-    let mut words = [0u32; 256];
-    plan_lent(
-        head,
-        initial,
-        twins,
-        formulas,
-        effects,
-        operators,
-        &mut numbers,
-        &mut scratch,
-        &mut words,
-        out,
-        res,
-    )
-}
-
-// Any search, in room of its own: 26 KiB.
-fn plan_full(
-    head: Head,
-    initial: &[u8],
-    twins: &[u16],
-    formulas: &[u16],
-    effects: &[u16],
-    operators: &[u16],
-    out: &mut [u8],
-    res: &mut [u8],
-) -> u32
-    requires { FreePlan (lent head initial.now twins.now formulas.now effects.now operators.now) (length res.old) }
-    ensures { PlanEntryGives (plan_picked (cheapest (task_of (lent head initial.now twins.now formulas.now effects.now operators.now))) (length out.old) (length res.old)) result out.new res.new }
-{
-    let mut numbers = [0u16; 1023];
-    let mut scratch = [0u8; 8192];
-    let mut words = [0u32; 4096];
-    plan_lent(
-        head,
-        initial,
-        twins,
-        formulas,
-        effects,
-        operators,
-        &mut numbers,
-        &mut scratch,
-        &mut words,
-        out,
-        res,
-    )
+    let mut numbers = [0u16; STEPS];
+    let mut scratch = [0u8; BYTES];
+    let mut words = [0u32; WORDS];
+    let plan = cheapest(tables, &mut numbers, &mut scratch, &mut words)?;
+    give_plan(&numbers, plan, out, res)
 }
 
 // Whether a task has at most 6 variables and few rows. Constant time.
+#[tactic(auto, unfolding(crate::specs::Inner::Giving::small_plan))]
 fn is_small(head: Head) -> bool
     ensures { result ≡ small_plan head }
 {
-    if 6 < head.variables {
-        return false;
-    }
-    head.formulas as usize + head.effects as usize <= 256
+    head.variables <= 6 && head.formulas as usize + head.effects as usize <= 256
 }
 
-// The search where nothing refuses it before it begins.
-fn plan_free(
-    head: Head,
-    initial: &[u8],
-    twins: &[u16],
-    formulas: &[u16],
-    effects: &[u16],
-    operators: &[u16],
-    out: &mut [u8],
-    res: &mut [u8],
-) -> u32
-    requires { FreePlan (lent head initial.now twins.now formulas.now effects.now operators.now) (length res.old) }
-    ensures { PlanEntryGives (plan_picked (cheapest (task_of (lent head initial.now twins.now formulas.now effects.now operators.now))) (length out.old) (length res.old)) result out.new res.new }
+// On the tables that a file was read into: 21, 20, then the search, of a small task in 1.4 KiB, of any in 26 KiB.
+fn plan_read(tables: &Tables<'_>, out: &mut [u8], res: &mut [u8]) -> Result<(), Refusal>
+    requires clear { Clear out.old res.old }
+    requires kept { refusal (lent_tables tables.now) ≡ 0 }
+    ensures { PlanEntryGives (plan_given (plan_number (head_of (task_of (lent_tables tables.now))) (length res.old)) (task_of (lent_tables tables.now)) (length out.old) (length res.old)) (told result) out.new res.new }
 {
-    if is_small(head) {
-        return plan_small(head, initial, twins, formulas, effects, operators, out, res);
+    refused_plan(tables.head, res.len())?;
+    if is_small(tables.head) {
+        plan_in::<63, 256, 256>(tables, out, res)
+    } else {
+        plan_in::<1023, 8192, 4096>(tables, out, res)
     }
-    plan_full(head, initial, twins, formulas, effects, operators, out, res)
 }
 
-// On the tables that a file was read into: 21, 20, then the search.
-fn plan_read(
-    head: Head,
-    initial: &[u8],
-    twins: &[u16],
-    formulas: &[u16],
-    effects: &[u16],
-    operators: &[u16],
-    out: &mut [u8],
-    res: &mut [u8],
-) -> u32
-    requires { refusal (lent head initial.now twins.now formulas.now effects.now operators.now) ≡ 0 }
-    ensures { PlanEntryGives (plan_given (plan_number (head_of (task_of (lent head initial.now twins.now formulas.now effects.now operators.now))) (length res.old)) (task_of (lent head initial.now twins.now formulas.now effects.now operators.now)) (length out.old) (length res.old)) result out.new res.new }
-{
-    let number = refused_plan(head, res.len());
-    if number != 0 {
-        return refuse(number, out, res);
-    }
-    plan_free(head, initial, twins, formulas, effects, operators, out, res)
-}
-
-// Reads into tables that are lent, then searches. What these hold afterwards is left open: they end with the caller's call.
-fn plan_through(
+// Clears both outputs, reads into tables of its own of these sizes, then searches.
+fn plan_through<const TWINS: usize, const WORDS: usize, const OPERATORS: usize>(
     file: &[u8],
-    initial: &mut [u8],
-    twins: &mut [u16],
-    formulas: &mut [u16],
-    effects: &mut [u16],
-    operators: &mut [u16],
     out: &mut [u8],
     res: &mut [u8],
-) -> u32
-    ensures { PlanEntryGives (plan_entry_by (reading (lengths (length initial.old) (length twins.old) (length formulas.old) (length effects.old) (length operators.old)) file.now) (length out.old) (length res.old)) result out.new res.new }
+) -> Result<(), Refusal>
+    requires { (TWINS ≤ 256) × (WORDS ≤ 12288) × (OPERATORS ≤ 1024) }
+    ensures { PlanEntryGives (plan_entry_by (reading (lengths 512 TWINS WORDS WORDS OPERATORS) file.now) (length out.old) (length res.old)) (told result) out.new res.new }
 {
-    let r = task_file::read::read(file, initial, twins, formulas, effects, operators);
-    let ReadAnswer::Read(head) = r else {
-        return refuse(entry_tables::not_read(r) as u32, out, res);
-    };
-    plan_read(head, initial, twins, formulas, effects, operators, out, res)
+    out.fill(0);
+    res.fill(0);
+    let mut own = OwnTables::<TWINS, WORDS, OPERATORS>::new();
+    let tables = own.read(file)?;
+    plan_read(&tables, out, res)
 }
 
-// The task in small tables: 3 KiB.
-fn plan_from_small(file: &[u8], out: &mut [u8], res: &mut [u8]) -> u32
-    ensures { PlanEntryGives (plan_entry_by (reading small file.now) (length out.old) (length res.old)) result out.new res.new }
-{
-    let mut initial = [0u8; 512];
-    let mut twins = [0u16; 64];
-    let mut formulas = [0u16; 384];
-    let mut effects = [0u16; 384];
-    let mut operators = [0u16; SMALL_OPERATOR_WORDS];
-    plan_through(
-        file,
-        &mut initial,
-        &mut twins,
-        &mut formulas,
-        &mut effects,
-        &mut operators,
-        out,
-        res,
-    )
-}
-
-// The task in tables with room for every task: 51 KiB.
-fn plan_from_full(file: &[u8], out: &mut [u8], res: &mut [u8]) -> u32
-    ensures { PlanEntryGives (plan_entry file.now (length out.old) (length res.old)) result out.new res.new }
-{
-    let mut initial = [0u8; 512];
-    let mut twins = [0u16; 256];
-    let mut formulas = [0u16; 12288];
-    let mut effects = [0u16; 12288];
-    let mut operators = [0u16; MOST_OPERATOR_WORDS];
-    plan_through(
-        file,
-        &mut initial,
-        &mut twins,
-        &mut formulas,
-        &mut effects,
-        &mut operators,
-        out,
-        res,
-    )
-}
-
-// The cheapest plan of a task file: 0, its operator numbers, two bytes each, and its steps and cost; or the number and all 0.
+// The cheapest plan of a task file: its operator numbers, two bytes each, and its steps and cost; or the refusal and all 0.
 // Cost: one pass over the file, then the search. A short file goes through small tables, and only if they are too short for its head, 5, through the
 // full ones.
-pub fn plan(file: &[u8], out: &mut [u8], res: &mut [u8]) -> u32
-    ensures { PlanEntryGives (plan_entry file.now (length out.old) (length res.old)) result out.new res.new }
+pub fn plan(file: &[u8], out: &mut [u8], res: &mut [u8]) -> Result<(), Refusal>
+    ensures { PlanEntryGives (plan_entry file.now (length out.old) (length res.old)) (told result) out.new res.new }
 {
-    if file.len() > 128 {
-        return plan_from_full(file, out, res);
+    if file.len() <= 128 {
+        let answer = plan_through::<SMALL_TWINS, SMALL_ROW_WORDS, SMALL_OPERATOR_WORDS>(
+            file, out, res,
+        );
+        if answer != Err(Refusal::ShortTable) {
+            return answer;
+        }
     }
-    let number = plan_from_small(file, out, res);
-    if number != 5 {
-        return number;
-    }
-    plan_from_full(file, out, res)
+    plan_through::<FULL_TWINS, FULL_ROW_WORDS, FULL_OPERATOR_WORDS>(file, out, res)
 }

@@ -1,60 +1,26 @@
 -- What a buffer holds in the end, and what the calls answer. Assumes nothing.
-use Prim.Native.Nat.{ℕ, zero, suc, ◌+◌, ◌-◌, ◌≤◌, ◌<◌}
+use Prim.Native.Nat.{ℕ, ◌+◌, ◌-◌, ◌≤◌, ◌<◌}
 use native.Mathlib.Nat.{zero-add}
 use native.Mathlib.Omega.{arith}
-use mathlib.Core.Path.{◌≡◌, refl, ap, ◌∙◌}
+use mathlib.Core.Path.{◌≡◌, refl, ap, ap₂, ◌∙◌}
 use mathlib.Core.Bool.{Bool, cond}
-use mathlib.Core.List.{List, ◌++◌, append-nil}
-use lib.ListN.{length, set, drop, replicate, length-append, length-replicate, length-drop, drop_of_length-le}
-use lib.Seq.{sets-eq}
-use borrow.Author.Fill.{fill_more}
+use mathlib.Core.List.{List, [], ◌++◌, append-nil}
+use lib.ListN.{length, take, drop, replicate, length-drop, drop_of_length-le}
+use lib.Seq.{sets-eq, take-append_seam}
+use borrow.Rule.Slice.PartMut.{put_mid}
 use borrow.Author.Tests.{le-leb, lt-leb, eq-eqb, ne_eqb}
+use Rattle.std.specs.Prelude.{Result, Ok, Err}
+use Rattle.std.specs.Result.{IsErrAnd}
+use Rattle.task.specs.declared.refusal.Refusal.{Refusal}
+use Rattle.task.specs.Refused.{number_of}
+use Rattle.task.proofs.Refusals.{number_some}
 use Rattle.task.specs.Table.{Lent, task_of}
 use Rattle.task.specs.Check.{refusal}
 use Rattle.task.specs.Words.{padded}
-use Rattle.printing.specs.declared.PrintAnswer.{PrintAnswer}
-use Rattle.printing.specs.declared.PrintAnswer.TheVariants.{Printed, Refused}
 use Rattle.printing.specs.Lines.{lines}
-use Rattle.printing.specs.Printing.{PrintGives, not_printed, placed, printing}
+use Rattle.printing.specs.Printing.{PrintAnswer, Printed, Refused, print_answered, PrintGives, not_printed, placed, printing}
 use Rattle.printing.specs.Inner.Put.{Put}
 use Rattle.printing.proofs.Puts.{put_length}
-
--- Clearing from the front.
-pub zeros_length : (i : ℕ) (d : List ℕ) → i ≤ length d → length (replicate i 0 ++ drop i d) ≡ length d
-zeros_length i d h = simp (length-append, length-replicate, length-drop) (omega arith)
-
-pub zeros_more :
-    (i : ℕ) (d l : List ℕ)
-    → i ≤ length d
-    → l ≡ replicate i 0 ++ drop i d
-    → i < length l
-    → (i + 1 ≤ length d) × (set l i 0 ≡ replicate (i + 1) 0 ++ drop (i + 1) d)
-zeros_more i d l h e t =
-    let n : length l ≡ length d = ap length e ∙ zeros_length i d h in
-    let b : i < length d = omega arith in
-    (omega arith, ap (λ (x : List ℕ). set x i 0) e ∙ fill_more i 0 d b)
-
-pub zeros_end :
-    (i : ℕ) (d l : List ℕ) → i ≤ length d → l ≡ replicate i 0 ++ drop i d → length l ≤ i → l ≡ replicate (length d) 0
-zeros_end i d l h e t =
-    let n : length l ≡ length d = ap length e ∙ zeros_length i d h in
-    let s : i ≡ length d = omega arith in
-    let b : length d ≤ i = omega arith in
-    e
-    ∙ ap (λ (x : List ℕ). replicate i 0 ++ x) (drop_of_length-le d b)
-    ∙ append-nil (replicate i 0)
-    ∙ ap (λ (k : ℕ). replicate k 0) s
-
-drop_zeros : (k n : ℕ) → drop {A = ℕ} k (replicate n 0) ≡ replicate (n - k) 0
-drop_zeros zero n =
-    let e : n ≡ n - 0 = omega arith in
-    ap (λ (j : ℕ). replicate {A = ℕ} j 0) e
-drop_zeros (suc k) zero =
-    let e : 0 ≡ 0 - suc k = omega arith in
-    ap (λ (j : ℕ). replicate {A = ℕ} j 0) e
-drop_zeros (suc k) (suc n) =
-    let e : n - k ≡ suc n - suc k = omega arith in
-    drop_zeros k n ∙ ap (λ (j : ℕ). replicate {A = ℕ} j 0) e
 
 module _ (text : List ℕ) (n : ℕ) where
   pub placed_whole :
@@ -79,34 +45,46 @@ module _ (text : List ℕ) (n : ℕ) where
       (not_printed 20 n))
       (lt-leb (length text) n h)
 
-  module _ {most last : ℕ} {out : List ℕ} (p : Put (replicate n 0) 0 text most out last) where
-    same_length : length out ≡ n
-    same_length = put_length p ∙ length-replicate n 0
+module _ (before text : List ℕ) {most last : ℕ} {out : List ℕ} (p : Put before 0 text most out last) where
+  same_length : length out ≡ length before
+  same_length = put_length p
 
-    whole : last ≡ length text
-    whole = p.counted ∙ zero-add (length text)
+  whole : last ≡ length text
+  whole = p.counted ∙ zero-add (length text)
 
-    pub settled_whole : last ≤ length out → PrintGives (placed text n) (Printed last) out
-    unfolding padded
-    settled_whole h =
-        let fits : length text ≤ n = omega (arith, same_length, whole) in
-        let zeros : length (replicate {A = ℕ} n 0) ≡ n = length-replicate n 0 in
-        rw (placed_whole fits)
-        (record {
-          answered = ap Printed whole;
-          left =
-              p.stored
-              ∙ sets-eq text (replicate n 0) 0 (omega (arith, fits, zeros))
-              ∙ ap (λ (k : ℕ). text ++ drop k (replicate n 0)) (zero-add (length text))
-              ∙ ap (λ (r : List ℕ). text ++ r) (drop_zeros (length text) n);
-        })
+  pub settled_whole :
+      last ≤ length out
+      → {zeros : List ℕ} {m : ℕ}
+      → zeros ≡ replicate m 0
+      → m ≡ length out - last
+      → PrintGives (placed text (length before)) (Printed last) (put_mid last (length out - last) out zeros)
+  unfolding padded
+  settled_whole h {zeros} e s =
+      let fits : length text ≤ length before = omega (arith, same_length, whole) in
+      let front : take last out ≡ text =
+      ap₂ take whole (p.stored ∙ sets-eq text before 0 (omega arith)) ∙ take-append_seam text (drop (0 + length text) before)
+      in
+      let behind : drop (length out - last) (drop last out) ≡ [] =
+      drop_of_length-le (drop last out) (omega (arith, length-drop last out))
+      in
+      let rest : zeros ++ drop (length out - last) (drop last out) ≡ replicate (length before - length text) 0 =
+      ap (λ (x : List ℕ). zeros ++ x) behind
+      ∙ append-nil zeros
+      ∙ e
+      ∙ ap (λ (k : ℕ). replicate {A = ℕ} k 0) (s ∙ ap₂ ◌-◌ same_length whole)
+      in
+      rw (placed_whole text (length before) fits) (record { answered = ap Printed whole; left = ap₂ ◌++◌ front rest })
 
-    pub settled_over : length out < last → {after : List ℕ} → after ≡ replicate (length out) 0 → PrintGives (placed text n) (Refused 20) after
-    unfolding not_printed
-    settled_over h e =
-        let over : n < length text = omega (arith, same_length, whole) in
-        rw (placed_over over)
-        (record { answered = refl; left = e ∙ ap (λ (j : ℕ). replicate {A = ℕ} j 0) same_length })
+  pub settled_over :
+      length out < last
+      → {after : List ℕ}
+      → after ≡ replicate (length out) 0
+      → PrintGives (placed text (length before)) (Refused 20) after
+  unfolding not_printed
+  settled_over h e =
+      let over : length before < length text = omega (arith, same_length, whole) in
+      rw (placed_over text (length before) over)
+      (record { answered = refl; left = e ∙ ap (λ (j : ℕ). replicate {A = ℕ} j 0) same_length })
 
 module _ (l : Lent) (n : ℕ) where
   stopped : (refusal l ≡ 0 → ⊥) → printing l n ≡ not_printed (refusal l) n
@@ -121,18 +99,21 @@ module _ (l : Lent) (n : ℕ) where
 
   module _ {out : List ℕ} where
     pub printing_refused :
-        (number : ℕ)
-        → number ≡ refusal l
-        → (number ≡ 0 → ⊥)
+        (r : Result ℕ Refusal) (e : Refusal)
+        → IsErrAnd r (λ x. x ≡ e)
+        → number_of e ≡ refusal l
         → out ≡ replicate n 0
-        → PrintGives (printing l n) (Refused number) out
+        → PrintGives (printing l n) (print_answered r) out
     unfolding not_printed
-    printing_refused number e h z =
-        rw (stopped (λ k. h (e ∙ k))) (record { answered = ap Refused e; left = z })
+    printing_refused (Ok x) e given is z = absurd given
+    printing_refused (Err x) e given is z =
+        let same : number_of x ≡ refusal l = ap number_of given ∙ is in
+        rw (stopped (λ k. number_some x (same ∙ k))) (record { answered = ap Refused same; left = z })
 
     pub printing_passed :
-        (answer : PrintAnswer)
+        {m : ℕ} (answer : PrintAnswer)
         → refusal l ≡ 0
-        → PrintGives (placed (lines (task_of l)) n) answer out
+        → m ≡ n
+        → PrintGives (placed (lines (task_of l)) m) answer out
         → PrintGives (printing l n) answer out
-    printing_passed answer e g = rw (passes e) g
+    printing_passed answer e s g = rw (passes e, ← s) g

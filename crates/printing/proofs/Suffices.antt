@@ -9,7 +9,7 @@ use Rattle.task.specs.Words.{padded}
 use Rattle.task.specs.Rules.{no_operator}
 use Rattle.task.proofs.Held.{length_operators, operator_held}
 use Rattle.task.proofs.Kept.{kept_rules}
-use Rattle.printing.specs.declared.PrintAnswer.TheVariants.{Printed}
+use Rattle.printing.specs.Printing.{Printed}
 use Rattle.printing.specs.Lines.{lines, refusal_line}
 use Rattle.printing.specs.Printing.{printing, printing_refusal}
 use Rattle.printing.proofs.Settled.{placed_whole, passes}

@@ -1,18 +1,21 @@
 -- The texts of lines, as the code puts them together. Assumes nothing.
 use Prim.Native.Nat.{ℕ, zero, suc, ◌+◌, ◌-◌, ◌≤◌, ◌<◌}
-use native.Mathlib.Nat.{not-suc-le-zero, add-zero}
+use native.Mathlib.Nat.{add-zero}
 use native.Mathlib.Numerals.{add-one}
 use native.Mathlib.Omega.{arith}
 use mathlib.Core.Path.{◌≡◌, refl, sym, ap, ap₂, ◌∙◌, subst}
+use mathlib.Core.Logic.{◌⊎◌, inl, inr}
 use mathlib.Core.List.{List, [], ◌∷◌, ◌++◌, map, append-nil, append_assoc}
 use lib.ListN.{length, get_or, take}
-use lib.Seq.{take-suc}
+use lib.Seq.{take-suc, take-length}
+use Rattle.std.proofs.lemmas.List.{take_all}
 use Rattle.task.specs.declared.Head.{Head}
 use Rattle.task.specs.Bounded.{upto}
 use Rattle.task.specs.Table.{Lent, row_at, operator_at, task_of}
 use Rattle.task.specs.Rules.{LongEnough}
 use Rattle.task.specs.Words.{joined, row_words, operator_row_words}
 use Rattle.task.proofs.Bounded.{length_upto}
+use Rattle.task.proofs.Words.{joined_append}
 use Rattle.task.proofs.Held.{length_initial, length_originals, length_formulas, length_effects, length_operators}
 use Rattle.task.specs.declared.Table.TheVariants.{Formulas, Effects, Operators}
 use Rattle.task.specs.declared.Table.{Table}
@@ -22,37 +25,27 @@ use Rattle.printing.specs.Lines.{newline, blank, digit, word, line, numbered, va
 use Rattle.printing.specs.Inner.Put.{Put, counts_of, listed_at, original_at, front_text, tables_text}
 use Rattle.printing.proofs.Puts.{nothing_put, then_put, put_as}
 
--- Lines of one and two numbers, and of a row.
-pub words_three : (a b c : ℕ) → (word a ++ word b) ++ word c ≡ joined word (a ∷ b ∷ c ∷ [])
+-- A line, number by number.
+pub words_more :
+    (letter : ℕ) (ns : List ℕ) (i : ℕ)
+    → i < length ns
+    → (letter ∷ joined word (take i ns)) ++ word (get_or ns i 0) ≡ letter ∷ joined word (take (i + 1) ns)
 unfolding joined
-words_three a b c = append_assoc (word a) (word b) (word c) ∙ ap (λ (x : List ℕ). word a ++ (word b ++ x)) (sym (append-nil (word c)))
+words_more letter ns i h =
+    ap (λ (x : List ℕ). letter ∷ x)
+    (sym
+    (ap (λ (n : ℕ). joined word (take n ns)) (add-one i)
+    ∙ ap (joined word) (take-suc ns i 0 h)
+    ∙ joined_append word (take i ns) (get_or ns i 0 ∷ [])
+    ∙ ap (λ (x : List ℕ). joined word (take i ns) ++ x) (append-nil (word (get_or ns i 0)))))
 
-pub words_four : (a b c d : ℕ) → joined word (a ∷ b ∷ c ∷ []) ++ word d ≡ joined word (a ∷ b ∷ c ∷ d ∷ [])
-unfolding joined
-words_four a b c d = simp (append_assoc, append-nil)
-
-pub words_six :
-    (a b c d e f : ℕ)
-    → joined word (a ∷ b ∷ c ∷ []) ++ joined word (d ∷ e ∷ f ∷ []) ≡ joined word (a ∷ b ∷ c ∷ d ∷ e ∷ f ∷ [])
-unfolding joined
-words_six a b c d e f = simp (append_assoc, append-nil)
-
-pub line_one : (letter n : ℕ) → (letter ∷ word n) ++ (newline ∷ []) ≡ line letter (n ∷ [])
-unfolding line joined
-line_one letter n = ap (λ (x : List ℕ). letter ∷ (x ++ (newline ∷ []))) (sym (append-nil (word n)))
-
-pub line_two : (letter n a : ℕ) → ((letter ∷ word n) ++ word a) ++ (newline ∷ []) ≡ line letter (n ∷ a ∷ [])
-unfolding line joined
-line_two letter n a = ap (λ (x : List ℕ). letter ∷ ((word n ++ x) ++ (newline ∷ []))) (sym (append-nil (word a)))
-
-pub line_more :
-    (letter n : ℕ) (ns : List ℕ) → ((letter ∷ word n) ++ joined word ns) ++ (newline ∷ []) ≡ line letter (n ∷ ns)
-unfolding line joined
-line_more letter n ns = refl
-
-pub line_counts : (letter : ℕ) (ns : List ℕ) → ((letter ∷ []) ++ joined word ns) ++ (newline ∷ []) ≡ line letter ns
+pub line_all :
+    (letter : ℕ) (ns : List ℕ) (i : ℕ)
+    → length ns ≤ i
+    → (letter ∷ joined word (take i ns)) ++ (newline ∷ []) ≡ line letter ns
 unfolding line
-line_counts letter ns = refl
+line_all letter ns i h =
+    ap (λ (x : List ℕ). letter ∷ (joined word x ++ (newline ∷ []))) (take_all i ns h)
 
 -- The initial values.
 map_append : {A B : Type 0} (g : A → B) (xs ys : List A) → map g (xs ++ ys) ≡ map g xs ++ map g ys
@@ -60,22 +53,25 @@ map_append g [] ys = refl
 map_append {A} {B} g (x ∷ xs) ys = ap {B = List B} (λ r. g x ∷ r) (map_append g xs ys)
 
 pub digits_more :
-    (l : List ℕ) (v : ℕ) → v < length l → map digit (take v l) ++ (digit (get_or l v 0) ∷ []) ≡ map digit (take (v + 1) l)
+    (l : List ℕ) (v : ℕ)
+    → v < length l
+    → (blank ∷ map digit (take v l)) ++ (digit (get_or l v 0) ∷ []) ≡ blank ∷ map digit (take (v + 1) l)
 digits_more l v h =
-    sym
+    ap (λ (x : List ℕ). blank ∷ x)
+    (sym
     (ap (λ (n : ℕ). map digit (take n l)) (add-one v)
     ∙ ap (map digit) (take-suc l v 0 h)
-    ∙ map_append digit (take v l) (get_or l v 0 ∷ []))
+    ∙ map_append digit (take v l) (get_or l v 0 ∷ [])))
 
-pub values_none : (l : List ℕ) (n : ℕ) → n ≡ 0 → values (take n l) ≡ []
+pub values_none : (l : List ℕ) → length l ≡ 0 → values l ≡ []
 unfolding values
-values_none l n e = ap (λ (k : ℕ). values (take k l)) e
+values_none [] e = refl
+values_none (b ∷ l) e = absurd (omega (arith, e))
 
-pub values_some : (l : List ℕ) (n : ℕ) → (n ≡ 0 → ⊥) → n ≤ length l → (blank ∷ []) ++ map digit (take n l) ≡ values (take n l)
+pub values_some : (l : List ℕ) (n : ℕ) → (length l ≡ 0 → ⊥) → length l ≤ n → blank ∷ map digit (take n l) ≡ values l
 unfolding values
-values_some l zero e h = absurd (e refl)
-values_some [] (suc n) e h = absurd (not-suc-le-zero h)
-values_some (b ∷ l) (suc n) e h = refl
+values_some [] n e h = absurd (e refl)
+values_some (b ∷ l) n e h = ap (λ (x : List ℕ). blank ∷ map digit x) (take_all n (b ∷ l) h)
 
 pub state_text : (l : List ℕ) → ((105 ∷ []) ++ values l) ++ (newline ∷ []) ≡ initial_line l
 unfolding initial_line
@@ -120,14 +116,30 @@ rows_more letter first n i f p q e h =
     put_as (then_put p q)
     (ap (λ (j : ℕ). numbered letter first (upto i f) ++ line letter (j ∷ f i)) e ∙ numbered_more letter first i f) h
 
--- the line of a row, by its words
-pub row_put :
+-- the line of a row, by its words: three, or an operator's four
+module _
     (letter i : ℕ) (table : Table) (words : List ℕ) {r : TableRow} {before after : List ℕ} {at most last : ℕ}
-    → r ≡ words_at table words i
-    → Put before at (line letter (i ∷ listed table r)) most after last
-    → Put before at (line letter (i ∷ listed_at table words i)) most after last
-row_put letter i table words {before = before} {after} {at} {most} {last} e p =
-    subst (λ (r : TableRow). Put before at (line letter (i ∷ listed table r)) most after last) e p
+  where
+    row_put :
+        r ≡ words_at table words i
+        → Put before at (line letter (i ∷ listed table r)) most after last
+        → Put before at (line letter (i ∷ listed_at table words i)) most after last
+    row_put e p = subst (λ (r : TableRow). Put before at (line letter (i ∷ listed table r)) most after last) e p
+
+    pub three_put :
+        (table ≡ Formulas) ⊎ (table ≡ Effects)
+        → r ≡ words_at table words i
+        → Put before at (line letter (i ∷ (r.first ∷ (r.second ∷ (r.third ∷ []))))) most after last
+        → Put before at (line letter (i ∷ listed_at table words i)) most after last
+    three_put (inl t) e p = row_put e (rw t p)
+    three_put (inr t) e p = row_put e (rw t p)
+
+    pub four_put :
+        table ≡ Operators
+        → r ≡ words_at table words i
+        → Put before at (line letter (i ∷ (r.first ∷ (r.second ∷ (r.third ∷ (r.fourth ∷ [])))))) most after last
+        → Put before at (line letter (i ∷ listed_at table words i)) most after last
+    four_put t e p = row_put e (rw t p)
 
 -- The lines of lent tables are those of the task that they hold.
 map_upto : {A B : Type 0} (g : A → B) (f : ℕ → A) (n : ℕ) → map g (upto n f) ≡ upto n (λ i. g (f i))
@@ -157,14 +169,24 @@ operators_text :
 unfolding operator_row_words
 operators_text letter words n = ap (numbered letter 0) (sym (map_upto operator_row_words (operator_at words) n))
 
+twins_front : (twins : List ℕ) (n : ℕ) → n ≤ length twins → upto (length (take n twins)) (original_at (take n twins)) ≡ upto n (original_at twins)
+twins_front twins n h =
+    let g : ℕ → List ℕ = λ o. o ∷ [] in
+    sym (map_take g (take n twins) (length (take n twins)) (omega arith))
+    ∙ ap (map g) (take-length (take n twins))
+    ∙ map_take g twins n h
+
 pub front_joined :
     (h : Head) (initial twins : List ℕ)
+    → h.twins ≤ length twins
     → (line 116 (counts_of h) ++ initial_line (take h.variables initial))
-    ++ numbered 119 (h.variables - h.twins) (upto h.twins (original_at twins))
+    ++ numbered 119 (h.variables - h.twins) (upto (length (take h.twins twins)) (original_at (take h.twins twins)))
     ≡ front_text h initial twins
 unfolding front_text
-front_joined h initial twins =
-    append_assoc (line 116 (counts_of h)) (initial_line (take h.variables initial))
+front_joined h initial twins long =
+    ap (λ (rows : List (List ℕ)). (line 116 (counts_of h) ++ initial_line (take h.variables initial)) ++ numbered 119 (h.variables - h.twins) rows)
+    (twins_front twins h.twins long)
+    ∙ append_assoc (line 116 (counts_of h)) (initial_line (take h.variables initial))
     (numbered 119 (h.variables - h.twins) (upto h.twins (original_at twins)))
 
 pub tables_joined :

@@ -1,11 +1,21 @@
 -- The whole outcome of printing, from the inputs alone: the answer, and the buffer at exit.
-use Rattle.std.specs.Prelude.{ℕ, ◌≡◌, cond, List, length, replicate, leb, eqb}
+use Rattle.std.specs.Prelude.{ℕ, ◌≡◌, cond, List, length, replicate, leb, eqb, Result, Ok, Err}
+use Rattle.task.specs.declared.refusal.Refusal.{Refusal}
+use Rattle.task.specs.Refused.{number_of}
 use Rattle.task.specs.Table.{Lent, task_of}
 use Rattle.task.specs.Check.{refusal}
 use Rattle.task.specs.Words.{padded}
-use Rattle.printing.specs.declared.PrintAnswer.{PrintAnswer}
-use Rattle.printing.specs.declared.PrintAnswer.TheVariants.{Printed, Refused}
 use Rattle.printing.specs.Lines.{lines, refusal_line}
+
+-- how many bytes the lines take, or the number of the refusal
+pub data PrintAnswer : Type 0 where
+  Printed : ℕ → PrintAnswer
+  Refused : ℕ → PrintAnswer
+
+-- the call's own answer, so told
+abbrev pub print_answered : Result ℕ Refusal → PrintAnswer
+print_answered (Ok length) = Printed length
+print_answered (Err refusal) = Refused (number_of refusal)
 
 pub record PrintOutcome : Type 0 where
   pub answer : PrintAnswer

@@ -1,9 +1,11 @@
 -- Rules written one after another: what the code stores is what the definition writes, and stopping at the first rule without room is exact,
 -- since effect rows are only appended. Assumes nothing.
+use Rattle.std.specs.Prelude.{Result, Ok, Err, MatchResult}
+use Rattle.std.specs.Result.{IsErrAnd}
 use Prim.Native.Nat.{ℕ, ◌+◌, ◌*◌, ◌≤◌, ◌<◌}
 use native.Mathlib.Omega.{arith}
 use mathlib.Core.Path.{◌≡◌, refl, sym, ap, ap₂, ◌∙◌}
-use mathlib.Core.Bool.{Bool, true, false, not, cond, true≢false}
+use mathlib.Core.Bool.{Bool, true, false, not, cond}
 use mathlib.Core.List.{List, [], ◌∷◌, ◌++◌, append_assoc}
 use lib.ListN.{length, get_or, length-append, length-set}
 use lib.Dec.{eqb, ltb}
@@ -25,111 +27,54 @@ use Rattle.rule_writer.specs.declared.Rule.{Rule as CodeRule}
 use Rattle.rule_writer.specs.declared.Frame.{Frame}
 use Rattle.rule_writer.specs.declared.Changes.{Changes as CodeChanges}
 use Rattle.rule_writer.specs.Inner.Places.{Placed}
-use Rattle.rule_writer.specs.Inner.Writes.{atom_of, kind_of, changes_in, alone, rule_in, twin_rule_in, all_in, two_rows, Holds, Ready, First, Next, Writes}
-
-abbrev pub filled : Chain → Chain
-filled at = record { rows = at.rows; stands = at.stands; full = true }
-
--- Done, over, or full from before.
-module _ {rs : List Rule} {room : ℕ} {at : Chain} {before : List ℕ} where
-  writes_done :
-      {after : List ℕ} {r : Chain}
-      → at.full ≡ false
-      → r.full ≡ false
-      → Ready room r after
-      → ((w : Written) → Holds w at before → Holds (write_rules w rs) r after)
-      → Writes rs room at before after r
-  writes_done e f ready holds =
-      record {
-        ready = ready;
-        stays = λ t. absurd (true≢false (sym t ∙ e));
-        done = λ w h _. holds w h;
-        over = λ w h _ t _. true≢false (sym t ∙ f);
-      }
-
-  writes_over :
-      Ready room at before
-      → ((w : Written) → Holds w at before → length (write_rules w rs).rows ≤ room → ⊥)
-      → Writes rs room at before before (filled at)
-  writes_over ready large =
-      record {
-        ready = record { within = ready.within; space = ready.space; limit = ready.limit };
-        stays = λ _. refl;
-        done = λ w h t. absurd (true≢false t);
-        over = λ w h _ _ few. large w h few;
-      }
-
-  pub writes_filled : Ready room at before → at.full ≡ true → Writes rs room at before before at
-  writes_filled ready e =
-      record {
-        ready = ready;
-        stays = λ t. t;
-        done = λ w h t. absurd (true≢false (sym e ∙ t));
-        over = λ w h t _ _. true≢false (sym e ∙ t);
-      }
+use Rattle.rule_writer.specs.Inner.Writes.{atom_of, kind_of, changes_in, alone, rule_in, twin_rule_in, all_in, two_rows, Holds, Ready, First, Next, Wrote, Overfull, Writes}
 
 -- no rule
-pub writes_none :
-    {rs : List Rule} {room : ℕ} {at : Chain} {before : List ℕ}
-    → Ready room at before
-    → rs ≡ []
-    → Writes rs room at before before at
-writes_none {rs} {room} {at} {before} ready e = rw e none
+pub wrote_none : {rs : List Rule} {room : ℕ} {at : Chain} {before : List ℕ} → Ready room at before → rs ≡ [] → Wrote rs room at before before at
+wrote_none {rs} {room} {at} {before} ready e = rw e none
   where
-    none : Writes [] room at before before at
-    none =
-        record {
-          ready = ready;
-          stays = λ t. t;
-          done = λ w h _. unfold write_rules in h;
-          over = λ w h e t _. true≢false (sym t ∙ e);
-        }
-
--- the same rules
-pub writes_as :
-    {rs qs : List Rule} {room : ℕ} {at r : Chain} {before after : List ℕ}
-    → rs ≡ qs
-    → Writes qs room at before after r
-    → Writes rs room at before after r
-writes_as e x = rw e x
+    none : Wrote [] room at before before at
+    none = record { ready = ready; done = λ w h. unfold write_rules in h }
 
 -- rules, then more
-pub writes_both :
-    {rs qs : List Rule} {room : ℕ} {at a r : Chain} {before mid after : List ℕ}
-    → Writes rs room at before mid a
-    → Writes qs room a mid after r
-    → Writes (rs ++ qs) room at before after r
-writes_both {rs} {qs} {room} {at} {a} {r} {before} {mid} {after} x y =
-    record {
-      ready = y.ready;
-      stays = λ t. y.stays (x.stays t);
-      done = λ w h f. rw (rules_split w rs qs) (y.done (write_rules w rs) (x.done w h (before-false f)) f);
-      over = λ w h e t few. later w h e t few a.full refl;
-    }
-  where
-    before-false : r.full ≡ false → a.full ≡ false
-    before-false f = go a.full refl
-      where
-        go : (b : Bool) → a.full ≡ b → a.full ≡ false
-        go false e = e
-        go true e = absurd (true≢false (sym (y.stays e) ∙ f))
+module _ {rs : List Rule} (qs : List Rule) {room : ℕ} {at : Chain} {before : List ℕ} where
+  pub wrote_both :
+      {a r : Chain} {mid after : List ℕ}
+      → Wrote rs room at before mid a
+      → Wrote qs room a mid after r
+      → Wrote (rs ++ qs) room at before after r
+  wrote_both x y =
+      record { ready = y.ready; done = λ w h. rw (rules_split w rs qs) (y.done (write_rules w rs) (x.done w h)) }
 
-    later :
-        (w : Written)
-        → Holds w at before
-        → at.full ≡ false
-        → r.full ≡ true
-        → length (write_rules w (rs ++ qs)).rows ≤ room
-        → (b : Bool)
-        → a.full ≡ b
-        → ⊥
-    later w h e t few false k =
-        y.over (write_rules w rs) (x.done w h k) k t (rw (rules_split w rs qs) at few)
-    later w h e t few true k =
-        let grown =
-        longer (write_rules w rs).rows (write_rules (write_rules w rs) qs).rows
-        (rules_prefix (write_rules w rs) qs) in
-        x.over w h e k (omega (arith, rw (rules_split w rs qs) at few))
+  pub overfull_both :
+      {a : Chain} {mid : List ℕ} → Wrote rs room at before mid a → Overfull qs room a mid → Overfull (rs ++ qs) room at before
+  overfull_both x y =
+      record { over = λ w h few. y.over (write_rules w rs) (x.done w h) (rw (rules_split w rs qs) at few) }
+
+  -- effect rows are only appended
+  pub overfull_more : Overfull rs room at before → Overfull (rs ++ qs) room at before
+  overfull_more x =
+      record {
+        over = λ w h few.
+            let grown =
+            longer (write_rules w rs).rows (write_rules (write_rules w rs) qs).rows
+            (rules_prefix (write_rules w rs) qs) in
+            x.over w h (omega (arith, rw (rules_split w rs qs) at few));
+      }
+
+module _ {E : Type 0} (rs qs : List Rule) (room : ℕ) (at : Chain) (before after : List ℕ) where
+  pub writes_both :
+      {a : Chain} {mid : List ℕ} (r : Result Chain E)
+      → Wrote rs room at before mid a
+      → Writes qs room a mid after r
+      → Writes (rs ++ qs) room at before after r
+  writes_both (Ok r) x y = wrote_both qs x y
+  writes_both (Err e) x y = overfull_both qs x y
+
+-- an error that `?` returns onward
+pub onward : {A E : Type 0} (P : A → Type 0) (Q : Type 0) (r : Result A E) (e : E) → IsErrAnd r (λ x. x ≡ e) → Q → MatchResult r P (λ _. Q)
+onward P Q (Ok x) e given q = absurd given
+onward P Q (Err x) e given q = q
 
 -- rows stored behind those that stand
 stored :
@@ -201,30 +146,32 @@ module _ (room : ℕ) (at : Chain) (t : List ℕ) (r : CodeRule) where
   length_two : length (two_rows t at.rows r) ≡ length t
   length_two = simp length-set
 
-  pub first_full : First room at t → room < at.rows + 2 → Writes (alone r) room at t t (filled at)
+  pub first_full : First room at t → room < at.rows + 2 → Overfull (alone r) room at t
   first_full f h =
-      writes_over f.ready (λ w hold few.
-      omega (
-        arith,
-        ap (λ (x : Written). length x.rows) (one_rule w (the_rule r)),
-        first_length w (the_rule r) (hold.stands ∙ f.none),
-        hold.rows,
-      ))
+      record {
+        over = λ w hold few.
+            omega (
+              arith,
+              ap (λ (x : Written). length x.rows) (one_rule w (the_rule r)),
+              first_length w (the_rule r) (hold.stands ∙ f.none),
+              hold.rows,
+            );
+      }
 
   pub first_done :
       First room at t
       → at.rows + 2 ≤ room
-      → Writes (alone r) room at t (two_rows t at.rows r)
-      (record { rows = at.rows + 2; stands = at.rows + 1; full = false })
+      → Wrote (alone r) room at t (two_rows t at.rows r) (record { rows = at.rows + 2; stands = at.rows + 1 })
   first_done f h =
-      writes_done f.unfilled refl
-      (record { within = h; space = omega (arith, length_two, f.ready.space); limit = f.ready.limit }) holds
+      record {
+        ready = record { within = h; space = omega (arith, length_two, f.ready.space); limit = f.ready.limit };
+        done = holds;
+      }
     where
       holds :
           (w : Written)
           → Holds w at t
-          → Holds (write_rules w (alone r)) (record { rows = at.rows + 2; stands = at.rows + 1; full = false })
-          (two_rows t at.rows r)
+          → Holds (write_rules w (alone r)) (record { rows = at.rows + 2; stands = at.rows + 1 }) (two_rows t at.rows r)
       holds w hold =
           let rows = w.rows ++ rule_rows at.rows (the_rule r) in
           rw (one_rule w (the_rule r), first_written w (the_rule r) (hold.stands ∙ f.none), hold.rows)
@@ -244,28 +191,32 @@ module _ (room : ℕ) (at : Chain) (t : List ℕ) (r : CodeRule) where
   length_joined : length joined_rows ≡ length t
   length_joined = simp length-set
 
-  pub next_full : Next room at t → room < at.rows + 3 → Writes (alone r) room at t t (filled at)
+  pub next_full : Next room at t → room < at.rows + 3 → Overfull (alone r) room at t
   next_full f h =
-      writes_over f.ready (λ w hold few.
-      omega (
-        arith,
-        ap (λ (x : Written). length x.rows) (one_rule w (the_rule r)),
-        next_length w (the_rule r) (λ e. f.some (sym hold.stands ∙ e)),
-        hold.rows,
-      ))
+      record {
+        over = λ w hold few.
+            omega (
+              arith,
+              ap (λ (x : Written). length x.rows) (one_rule w (the_rule r)),
+              next_length w (the_rule r) (λ e. f.some (sym hold.stands ∙ e)),
+              hold.rows,
+            );
+      }
 
   pub next_done :
       Next room at t
       → at.rows + 3 ≤ room
-      → Writes (alone r) room at t joined_rows (record { rows = at.rows + 3; stands = at.rows + 2; full = false })
+      → Wrote (alone r) room at t joined_rows (record { rows = at.rows + 3; stands = at.rows + 2 })
   next_done f h =
-      writes_done f.unfilled refl
-      (record { within = h; space = omega (arith, length_joined, f.ready.space); limit = f.ready.limit }) holds
+      record {
+        ready = record { within = h; space = omega (arith, length_joined, f.ready.space); limit = f.ready.limit };
+        done = holds;
+      }
     where
       holds :
           (w : Written)
           → Holds w at t
-          → Holds (write_rules w (alone r)) (record { rows = at.rows + 3; stands = at.rows + 2; full = false }) joined_rows
+          → Holds (write_rules w (alone r)) (record { rows = at.rows + 3; stands = at.rows + 2 }) joined_rows
       holds w hold =
           let two = w.rows ++ rule_rows at.rows (the_rule r) in
           let join : Row = record { kind = 3; a = at.stands; b = at.rows + 1 } in
@@ -336,20 +287,32 @@ changes_written frame twins k c many e =
     made p count = rule c.adds (sets v) ++ (of-twin p count c.adds false ++ made-clear p count)
 
 -- those of the place that was found
-pub writes_placed :
-    (frame : Frame) (c : CodeChanges) {twins places : List ℕ} {room : ℕ} {at r : Chain} {before after : List ℕ}
+pub rules_placed :
+    (frame : Frame) (c : CodeChanges) {twins places : List ℕ}
     → Placed frame.variables frame.twins twins places
     → c.variable < frame.variables
-    → Writes (all_in frame (get_or places c.variable 0) c) room at before after r
-    → Writes (rules_of frame.variables twins (changes_in c)) room at before after r
-writes_placed frame c {twins} {places} p h x =
-    writes_as (changes_written frame twins (get_or places c.variable 0) c p.many (p.at c.variable h)) x
+    → rules_of frame.variables twins (changes_in c) ≡ all_in frame (get_or places c.variable 0) c
+rules_placed frame c {twins} {places} p h =
+    changes_written frame twins (get_or places c.variable 0) c p.many (p.at c.variable h)
 
 -- An operator's variables, one after another: v's rules behind those of the variables before it; none if it is neither set nor cleared.
 module _ (n : ℕ) (twins : List ℕ) (cs : List Changes) (c : Changes) {room : ℕ} {at a : Chain} {before mid : List ℕ} where
-  pub writes_variable :
+  pub wrote_variable :
       {r : Chain} {after : List ℕ}
-      → Writes (rules n twins cs) room at before mid a
-      → Writes (rules_of n twins c) room a mid after r
-      → Writes (rules n twins (cs ++ (c ∷ []))) room at before after r
-  writes_variable x y = writes_as (rules_snoc n twins cs c) (writes_both x y)
+      → Wrote (rules n twins cs) room at before mid a
+      → Wrote (rules_of n twins c) room a mid after r
+      → Wrote (rules n twins (cs ++ (c ∷ []))) room at before after r
+  wrote_variable x y = rw (rules_snoc n twins cs c) (wrote_both (rules_of n twins c) x y)
+
+  pub overfull_variable :
+      Wrote (rules n twins cs) room at before mid a
+      → Overfull (rules_of n twins c) room a mid
+      → Overfull (rules n twins (cs ++ (c ∷ []))) room at before
+  overfull_variable x y = rw (rules_snoc n twins cs c) (overfull_both (rules_of n twins c) x y)
+
+-- no room for these variables' rules, and so none for those and one more
+pub overfull_still :
+    (n : ℕ) (twins : List ℕ) (cs : List Changes) (c : Changes) {room : ℕ} {at : Chain} {before : List ℕ}
+    → Overfull (rules n twins cs) room at before
+    → Overfull (rules n twins (cs ++ (c ∷ []))) room at before
+overfull_still n twins cs c x = rw (rules_snoc n twins cs c) (overfull_more (rules_of n twins c) x)

@@ -1,119 +1,98 @@
 // The rules of a compiled operator, as effect rows behind those that stand.
-ghost use Rattle.std.specs.Prelude.{◌≡◌, true, ◌+◌, ◌*◌, ◌≤◌, ◌<◌, length, get_or};
-ghost use Rattle.rule_writer.specs.Inner.Writes.{kind_of, alone, rule_in, twin_rule_in, opposed_in, all_in, two_rows, Ready, FrameReady, First, Next, Writes};
+ghost use Rattle.std.specs.Prelude.{◌≡◌, ◌+◌, ◌*◌, ◌≤◌, ◌<◌, length, get_or};
+ghost use Rattle.rule_writer.specs.Inner.Writes.{alone, rule_in, twin_rule_in, opposed_in, all_in, two_rows, Ready, FrameReady, First, Next, Writes};
 
 use crate::rows::store;
-use crate::{Chain, Changes, Frame, Rule};
-
-// No room: what stands stays.
-fn full(at: Chain) -> Chain
-    ensures { result ≡ record { rows = at.rows; stands = at.stands; full = true } }
-{
-    Chain {
-        rows: at.rows,
-        stands: at.stands,
-        full: true,
-    }
-}
-
-// The effect kind of an atom.
-fn kind(sets: bool) -> u16
-    ensures { result ≡ kind_of sets }
-{
-    if sets { 1 } else { 2 }
-}
+use crate::{Chain, Changes, Frame, NoRoom, Rule};
+use task::kinds::EffectKind;
 
 // The two rows of a rule: its atom at row n, then the atom under its condition.
 fn conjunct(table: &mut [u16], n: usize, r: Rule)
     requires { (n ≤ 4095) × (3 * n + 6 ≤ length table.old) }
     ensures { table.new ≡ two_rows table.old n r }
 {
-    let k = kind(r.sets);
-    store(table, n, k, r.variable, 0);
-    let under = n + 1;
-    store(table, under, 4, r.condition, n as u16);
+    let kind = if r.sets {
+        EffectKind::Set
+    } else {
+        EffectKind::Clear
+    };
+    store(table, n, kind as u16, r.variable, 0);
+    let under = EffectKind::Under as u16;
+    store(table, n + 1, under, r.condition, n as u16);
 }
 
 // An operator's first rule.
-fn first(table: &mut [u16], room: usize, at: Chain, r: Rule) -> Chain
+fn first(table: &mut [u16], room: usize, at: Chain, r: Rule) -> Result<Chain, NoRoom>
     requires { First room at table.old }
     ensures { Writes (alone r) room at table.old table.new result }
 {
     let n = at.rows;
     if room < n + 2 {
-        return full(at);
+        return Err(NoRoom);
     }
     conjunct(table, n, r);
-    Chain {
+    Ok(Chain {
         rows: n + 2,
         stands: (n + 1) as u16,
-        full: false,
-    }
+    })
 }
 
 // A further rule: joined by "both" to what stands.
-fn next(table: &mut [u16], room: usize, at: Chain, r: Rule) -> Chain
+fn next(table: &mut [u16], room: usize, at: Chain, r: Rule) -> Result<Chain, NoRoom>
     requires { Next room at table.old }
     ensures { Writes (alone r) room at table.old table.new result }
 {
     let n = at.rows;
     if room < n + 3 {
-        return full(at);
+        return Err(NoRoom);
     }
     conjunct(table, n, r);
-    store(table, n + 2, 3, at.stands, (n + 1) as u16);
-    Chain {
+    let both = EffectKind::Both as u16;
+    store(table, n + 2, both, at.stands, (n + 1) as u16);
+    Ok(Chain {
         rows: n + 3,
         stands: (n + 2) as u16,
-        full: false,
-    }
+    })
 }
 
 // One rule; none for a condition that is row 0. Constant time.
-pub fn write_rule(table: &mut [u16], room: usize, at: Chain, r: Rule) -> Chain
+pub fn write_rule(table: &mut [u16], room: usize, at: Chain, r: Rule) -> Result<Chain, NoRoom>
     requires { Ready room at table.old }
     ensures { Writes (rule_in r) room at table.old table.new result }
 {
-    if at.full {
-        return at;
-    }
     if r.condition == 0 {
-        return at;
+        Ok(at)
+    } else if at.stands == 0 {
+        first(table, room, at, r)
+    } else {
+        next(table, room, at, r)
     }
-    if at.stands == 0 {
-        return first(table, room, at, r);
-    }
-    next(table, room, at, r)
 }
 
 // The opposite rule for the twin at place k; none if k is past the twins.
-fn twin_rule(table: &mut [u16], frame: Frame, at: Chain, k: usize, r: Rule) -> Chain
+fn twin_rule(table: &mut [u16], frame: Frame, at: Chain, k: usize, r: Rule) -> Result<Chain, NoRoom>
     requires { FrameReady frame at table.old }
     ensures { Writes (twin_rule_in frame k r) frame.room at table.old table.new result }
 {
     if k < frame.twins {
         let t = frame.variables + k;
-        let opposite = !r.sets;
-        return write_rule(
-            table,
-            frame.room,
-            at,
-            Rule {
-                sets: opposite,
-                variable: t as u16,
-                condition: r.condition,
-            },
-        );
+        let opposite = Rule {
+            sets: !r.sets,
+            variable: t as u16,
+            condition: r.condition,
+        };
+        write_rule(table, frame.room, at, opposite)
+    } else {
+        Ok(at)
     }
-    at
 }
 
 // A rule, and the opposite one for the twin at place k.
-fn opposed(table: &mut [u16], frame: Frame, at: Chain, k: usize, r: Rule) -> Chain
+fn opposed(table: &mut [u16], frame: Frame, at: Chain, k: usize, r: Rule) -> Result<Chain, NoRoom>
     requires { FrameReady frame at table.old }
     ensures { Writes (opposed_in frame k r) frame.room at table.old table.new result }
 {
-    let a = write_rule(table, frame.room, at, r);
+    let a = write_rule(table, frame.room, at, r)?;
     twin_rule(table, frame, a, k, r)
 }
 
@@ -124,31 +103,21 @@ pub fn write_changes(
     frame: Frame,
     at: Chain,
     c: Changes,
-) -> Chain
+) -> Result<Chain, NoRoom>
     requires { FrameReady frame at table.old × (c.variable < length places.now) }
     ensures { Writes (all_in frame (get_or places.now c.variable 0) c) frame.room at table.old table.new result }
 {
     let k = places[c.variable as usize] as usize;
-    let a = opposed(
-        table,
-        frame,
-        at,
-        k,
-        Rule {
-            sets: true,
-            variable: c.variable,
-            condition: c.adds,
-        },
-    );
-    opposed(
-        table,
-        frame,
-        a,
-        k,
-        Rule {
-            sets: false,
-            variable: c.variable,
-            condition: c.deletes,
-        },
-    )
+    let sets = Rule {
+        sets: true,
+        variable: c.variable,
+        condition: c.adds,
+    };
+    let clears = Rule {
+        sets: false,
+        variable: c.variable,
+        condition: c.deletes,
+    };
+    let a = opposed(table, frame, at, k, sets)?;
+    opposed(table, frame, a, k, clears)
 }

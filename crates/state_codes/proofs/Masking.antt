@@ -1,90 +1,111 @@
 -- The words of effects: each arm of the code, each turn of its loop, and what they mean. Assumes nothing.
-use Prim.Native.Nat.{ℕ, zero, suc, ◌+◌, ◌*◌, ◌%◌, ◌^◌, ◌≤◌, ◌<◌}
+use Prim.Native.Nat.{ℕ, suc, ◌+◌, ◌-◌, ◌*◌, ◌%◌, ◌^◌, ◌≤◌, ◌<◌}
 use native.Mathlib.Nat.{one-mul}
 use native.Mathlib.Omega.{arith}
 use native.Mathlib.Decide.{ℕ_discrete}
-use mathlib.Core.Path.{◌≡◌, refl, sym, ap₂, ◌∙◌}
+use mathlib.Core.Path.{◌≡◌, refl, sym, ap, ap₂, ◌∙◌}
 use mathlib.Core.List.{List}
 use lib.Bits.{bit_or}
-use lib.Pow.{shl_exact, pow-add}
+use lib.Pow.{shl_exact}
 use lib.ListN.{length, get_or, set, length-set}
 use lib.Seq.{get_or-set_same, get_or-set_other}
 use borrow.Author.Tests.{eq-eqb, ne_eqb}
+use Rattle.std.specs.Prelude.{Result, Ok, Err}
+use Rattle.std.specs.Result.{IsOk}
+use Rattle.task.specs.declared.Table.TheVariants.{Effects}
+use Rattle.task.specs.declared.TableRow.{TableRow}
+use Rattle.task.specs.declared.kinds.EffectKind.{EffectKind as Kind}
+use Rattle.task.specs.declared.kinds.EffectKind.TheVariants as k
+use Rattle.task.specs.declared.kinds.UnknownKind.{UnknownKind}
+use Rattle.task.specs.Kinds.{effect_number, EffectKindOf}
+use Rattle.task.specs.Inner.Tables.{words_at}
 use Rattle.task.specs.Rules.{EffectRule}
 use Rattle.task.specs.Table.{row_at, EffectKind, empty_kind, set_kind, clear_kind, both_kind, under_kind, unknown_effect, effect_kind}
 use Rattle.task.specs.Inner.Rows.{EffectKept}
 use Rattle.state_codes.specs.Inner.Masks.{kind_mask, row_mask, RowMasks, Maskable, RowMaskable}
 
--- the kinds that keep a rule, behind "both", are "under"
-rule_under :
-    (v f i n a b : ℕ)
-    → EffectRule v f i (effect_kind n) a b
-    → (n ≡ 0 → ⊥)
-    → (n ≡ 1 → ⊥)
-    → (n ≡ 2 → ⊥)
-    → (n ≡ 3 → ⊥)
-    → (n ≡ 4) × (a < f) × (b < i)
+-- a row that keeps its rule is of a known kind
+no_rule : (v f i a b n : ℕ) → 5 ≤ n → EffectRule v f i (effect_kind n) a b → ⊥
 unfolding effect_kind
-rule_under v f i zero a b r d0 d1 d2 d3 = absurd (d0 refl)
-rule_under v f i (suc zero) a b r d0 d1 d2 d3 = absurd (d1 refl)
-rule_under v f i (suc (suc zero)) a b r d0 d1 d2 d3 = absurd (d2 refl)
-rule_under v f i (suc (suc (suc zero))) a b r d0 d1 d2 d3 = absurd (d3 refl)
-rule_under v f i (suc (suc (suc (suc zero)))) a b r d0 d1 d2 d3 = (refl, r.0, r.1)
-rule_under v f i (suc (suc (suc (suc (suc n))))) a b r d0 d1 d2 d3 = absurd r
+no_rule v f i a b n h rule =
+    let m : n ≡ suc (suc (suc (suc (suc (n - 5))))) = omega arith in
+    rw m at rule
 
--- the code's shifts
-pub set_shifted : (a : ℕ) → a < 16 → 1 * 2 ^ a % 4294967296 ≡ 2 ^ a
-set_shifted a h = shl_exact {a = 1} 1 a 32 (omega arith) (omega arith) ∙ one-mul (2 ^ a)
+pub known :
+    {words values masks : List ℕ} {i : ℕ}
+    → RowMaskable words i values masks
+    → {row : TableRow}
+    → row ≡ words_at Effects words i
+    → (r : Result Kind UnknownKind)
+    → EffectKindOf row.first r
+    → IsOk r
+known ready read (Ok kind) tried = refl
+known {words} {i = i} ready read (Err e) tried =
+    let w = row_at words i in
+    absurd (no_rule ready.v ready.f i w.a w.b w.kind (rw read at tried) ready.rule)
 
-pub clear_shifted : (a : ℕ) → a < 15 → 65536 * 2 ^ a % 4294967296 ≡ 2 ^ (16 + a)
-clear_shifted a h = shl_exact {a = 65536} 17 a 32 (omega arith) (omega arith) ∙ sym (pow-add 2 16 a)
+-- the code's shift
+shifted : (a : ℕ) → a < 31 → 1 * 2 ^ a % 4294967296 ≡ 2 ^ a
+shifted a h = shl_exact {a = 1} 1 a 32 (omega arith) (omega arith) ∙ one-mul (2 ^ a)
 
--- The arms of `mask_of`.
-module _ {words values masks : List ℕ} {i : ℕ} (ready : RowMaskable words i values masks) where
-  pub empty_row : (row_at words i).kind ≡ 0 → 0 ≡ row_mask values masks (row_at words i)
-  unfolding row_mask kind_mask effect_kind
-  empty_row k = rw k
+-- the arms of `mask_of`, from the words that it reads
+module _
+    {words values masks : List ℕ} {i : ℕ} (ready : RowMaskable words i values masks)
+    {row : TableRow} (read : row ≡ words_at Effects words i)
+    {r : Result Kind UnknownKind} (tried : EffectKindOf row.first r)
+    {kind : Kind} (unwrapped : r ≡ Ok kind) where
+  number : (row_at words i).kind ≡ effect_number kind
+  number =
+      let of : EffectKindOf row.first (Ok kind) = rw unwrapped at tried in
+      sym (ap (λ (x : TableRow). x.first) read) ∙ of
+
+  kept : EffectRule ready.v ready.f i (effect_kind (effect_number kind)) row.second row.third
+  kept = rw (read, ← number) ready.rule
+
+  mask : {x : ℕ} → x ≡ kind_mask values masks (effect_kind (effect_number kind)) row.second row.third → x ≡ row_mask values masks (row_at words i)
+  unfolding row_mask
+  mask e = rw number (e ∙ rw read)
+
+  pub empty_row : kind ≡ k.Empty → 0 ≡ row_mask values masks (row_at words i)
+  unfolding kind_mask effect_kind
+  empty_row e = mask (rw e)
 
   -- an atom's variable
-  pub set_ref : (row_at words i).kind ≡ 1 → (row_at words i).a < 10
+  pub set_ref : kind ≡ k.Set → row.second < 10
   unfolding effect_kind
-  set_ref k = omega (arith, rw k at ready.rule, ready.few)
+  set_ref e = omega (arith, rw e at kept, ready.few)
 
-  pub set_row : (row_at words i).kind ≡ 1 → 1 * 2 ^ (row_at words i).a % 4294967296 ≡ row_mask values masks (row_at words i)
-  unfolding row_mask kind_mask effect_kind
-  set_row k = rw k (set_shifted (row_at words i).a (omega (arith, set_ref k)))
+  pub set_row : kind ≡ k.Set → 1 * 2 ^ row.second % 4294967296 ≡ row_mask values masks (row_at words i)
+  unfolding kind_mask effect_kind
+  set_row e = mask (rw e (shifted row.second (omega (arith, set_ref e))))
 
-  pub clear_ref : (row_at words i).kind ≡ 2 → (row_at words i).a < 10
+  pub clear_ref : kind ≡ k.Clear → row.second < 10
   unfolding effect_kind
-  clear_ref k = omega (arith, rw k at ready.rule, ready.few)
+  clear_ref e = omega (arith, rw e at kept, ready.few)
 
-  pub clear_row : (row_at words i).kind ≡ 2 → 65536 * 2 ^ (row_at words i).a % 4294967296 ≡ row_mask values masks (row_at words i)
-  unfolding row_mask kind_mask effect_kind
-  clear_row k = rw k (clear_shifted (row_at words i).a (omega (arith, clear_ref k)))
+  pub clear_row : kind ≡ k.Clear → 1 * 2 ^ (16 + row.second) % 4294967296 ≡ row_mask values masks (row_at words i)
+  unfolding kind_mask effect_kind
+  clear_row e = mask (rw e (shifted (16 + row.second) (omega (arith, clear_ref e))))
 
-  pub both_refs : (row_at words i).kind ≡ 3 → ((row_at words i).a < i) × ((row_at words i).b < i)
+  pub both_refs : kind ≡ k.Both → (row.second < i) × (row.third < i)
   unfolding effect_kind
-  both_refs k = rw k at ready.rule
+  both_refs e = rw e at kept
 
-  pub both_row :
-      (row_at words i).kind ≡ 3
-      → bit_or (get_or masks (row_at words i).a 0) (get_or masks (row_at words i).b 0) ≡ row_mask values masks (row_at words i)
-  unfolding row_mask kind_mask effect_kind
-  both_row k = rw k
+  pub both_row : kind ≡ k.Both → bit_or (get_or masks row.second 0) (get_or masks row.third 0) ≡ row_mask values masks (row_at words i)
+  unfolding kind_mask effect_kind
+  both_row e = mask (rw e)
 
-  -- any other kind is "under"
-  module _ (d0 : (row_at words i).kind ≡ 0 → ⊥) (d1 : (row_at words i).kind ≡ 1 → ⊥) (d2 : (row_at words i).kind ≡ 2 → ⊥) (d3 : (row_at words i).kind ≡ 3 → ⊥) where
-    pub under_refs : ((row_at words i).kind ≡ 4) × ((row_at words i).a < ready.f) × ((row_at words i).b < i)
-    under_refs =
-        rule_under ready.v ready.f i (row_at words i).kind (row_at words i).a (row_at words i).b ready.rule d0 d1 d2 d3
+  pub under_refs : kind ≡ k.Under → (row.second < ready.f) × (row.third < i)
+  unfolding effect_kind
+  under_refs e = rw e at kept
 
-    pub under_false : get_or values (row_at words i).a 0 ≡ 0 → 0 ≡ row_mask values masks (row_at words i)
-    unfolding row_mask kind_mask effect_kind
-    under_false e = rw (under_refs.0, eq-eqb (get_or values (row_at words i).a 0) 0 e)
+  pub under_false : kind ≡ k.Under → get_or values row.second 0 ≡ 0 → 0 ≡ row_mask values masks (row_at words i)
+  unfolding kind_mask effect_kind
+  under_false e z = mask (rw (e, eq-eqb (get_or values row.second 0) 0 z))
 
-    pub under_true : (get_or values (row_at words i).a 0 ≡ 0 → ⊥) → get_or masks (row_at words i).b 0 ≡ row_mask values masks (row_at words i)
-    unfolding row_mask kind_mask effect_kind
-    under_true e = rw (under_refs.0, ne_eqb (get_or values (row_at words i).a 0) 0 e)
+  pub under_true : kind ≡ k.Under → (get_or values row.second 0 ≡ 0 → ⊥) → get_or masks row.third 0 ≡ row_mask values masks (row_at words i)
+  unfolding kind_mask effect_kind
+  under_true e z = mask (rw (e, ne_eqb (get_or values row.second 0) 0 z))
 
 -- A row looks only at words of lower rows.
 kind_same :
@@ -114,9 +135,6 @@ pub record Masking (words : List ℕ) (values before : List ℕ) (n i : ℕ) (ma
   pub same : length masks ≡ length before
   pub inside : i ≤ n
   pub known : RowMasks words i values masks
-
-pub masking_begin : (words values masks : List ℕ) (n : ℕ) → Masking words values masks n 0 masks
-masking_begin words values masks n = record { same = refl; inside = omega arith; known = record { at = λ j h. absurd (omega arith) } }
 
 module _ {words values before masks : List ℕ} {n i : ℕ} (ready : Maskable words n values before) (more : i < n) (m : Masking words values before n i masks) where
   pub row_ready : RowMaskable words i values masks

@@ -8,10 +8,8 @@ pub fn code_of(state: &[u8]) -> usize
     ensures { result ≡ code state.now }
 {
     let mut code = 0;
-    let mut v = state.len();
-    while 0 < v {
-        v -= 1;
-        code = 2 * code + state[v] as usize;
+    for bit in state.iter().rev() {
+        code = 2 * code + usize::from(*bit);
     }
     code
 }
@@ -21,9 +19,7 @@ pub fn write_state(code: usize, state: &mut [u8])
     requires { length state.old ≤ 10 }
     ensures { state.new ≡ state_of (length state.old) code }
 {
-    let mut v = 0;
-    while v < state.len() {
-        state[v] = ((code >> v) % 2) as u8;
-        v += 1;
+    for (v, bit) in state.iter_mut().enumerate() {
+        *bit = ((code >> v) % 2) as u8;
     }
 }

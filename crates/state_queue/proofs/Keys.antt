@@ -2,14 +2,14 @@
 use Prim.Native.Nat.{ℕ, ◌+◌, ◌-◌, ◌*◌, ◌≤◌, ◌<◌}
 use native.Mathlib.Omega.{arith}
 use native.Mathlib.Decide.{dec_lt}
-use mathlib.Core.Path.{◌≡◌, sym, ap, ◌∙◌}
+use mathlib.Core.Path.{◌≡◌, sym, ◌∙◌}
 use mathlib.Core.Bool.{true, false}
 use mathlib.Core.List.{List}
 use lib.Dec.{ltb}
 use lib.ListN.{length, get_or, set}
 use lib.Seq.{get_or-set_same, get_or-set_other}
 use borrow.Author.Tests.{le-leb, lt-leb, eq-eqb, ne_eqb}
-use Rattle.state_queue.specs.Inner.Queue.{queue_cost, queued, key, winner, better}
+use Rattle.state_queue.specs.Inner.Queue.{queue_cost, key, winner, better}
 
 pub cost_taken : (word : ℕ) → word ≡ 0 → 4294967295 ≡ queue_cost word
 unfolding queue_cost
@@ -18,14 +18,6 @@ cost_taken word e = rw (eq-eqb word 0 e)
 pub cost_else : (word : ℕ) → (word ≡ 0 → ⊥) → word - 1 ≡ queue_cost word
 unfolding queue_cost
 cost_else word h = rw (ne_eqb word 0 h)
-
-pub is_queued : (word cost : ℕ) → cost ≡ queue_cost word → ltb cost 4294967294 ≡ queued word
-unfolding queued
-is_queued word cost e = ap (λ x. ltb x 4294967294) e
-
-pub key_made : (words : List ℕ) (n s : ℕ) {cost : ℕ} → cost ≡ queue_cost (get_or words s 0) → cost * 4294967296 + get_or words (n + s) 0 ≡ key words n s
-unfolding key
-key_made words n s e = rw e
 
 pub winner_state : (words : List ℕ) (n i : ℕ) → n ≤ i → i - n ≡ winner words n i
 unfolding winner

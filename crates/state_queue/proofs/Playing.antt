@@ -25,10 +25,6 @@ all_played h p = record { queue = record { node = λ i a b. p.node i a b (h i a 
 pub roomy_on : {n : ℕ} {before words : List ℕ} → Roomy n before → length words ≡ length before → Roomy n words
 roomy_on r e = record { some = r.some; limit = r.limit; room = omega (arith, r.room, e) }
 
--- no node yet
-pub none_playing : {n : ℕ} (words : List ℕ) {holds : ℕ → Type 0} → ((i : ℕ) → i < n → holds i → ⊥) → Playing n words words holds
-none_playing words none = record { long = refl; front = λ j h. refl; node = λ i a b x. absurd (none i b x) }
-
 -- The state of a child of node i that comes no later than that of the other child.
 pub data Chosen (words : List ℕ) (n i x : ℕ) : Type 0 where
   from_left : x ≡ winner words n (2 * i) → key words n (winner words n (2 * i)) ≤ key words n (winner words n (2 * i + 1)) → Chosen words n i x

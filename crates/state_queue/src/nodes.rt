@@ -1,5 +1,7 @@
 // A tournament over n states. Words 0..n have their costs and one, n..2n their steps, 3n..4n its nodes. Node i of 1..n names the state that comes
 // first below it; its children are nodes 2i and 2i + 1, and nodes n..2n are the states themselves.
+// The words are lent and stay one run, as the call's promise on them has it: no heap. No struct holds the words and n: each contract on such a
+// `&mut` would need a clause on its ghost name besides, which is no plainer than `Roomy n words`.
 ghost use Rattle.std.specs.Prelude.{◌+◌, ◌*◌, ◌≤◌, ◌<◌, ◌≡◌, length, set};
 ghost use Rattle.state_queue.specs.Inner.Queue.{queue_cost, key, winner, better, queued, Roomy, Sets, Siblings, Waits, Nearly, Climbs, Climbed, Played};
 
@@ -9,6 +11,7 @@ use crate::NOT_REACHED;
 const ABOVE_STEPS: u64 = 4294967296;
 
 // The cost by which a state is queued: one that was taken comes last, one that was not reached before it. Constant time, as are all up to the node.
+#[tactic(auto, unfolding(crate::specs::Inner::Queue::queue_cost))]
 fn queue_cost(word: u32) -> u32
     ensures { result ≡ queue_cost word }
 {
@@ -16,41 +19,47 @@ fn queue_cost(word: u32) -> u32
 }
 
 // Whether a state of this word is in the queue.
+#[tactic(auto, unfolding(crate::specs::Inner::Queue::queued))]
 pub fn is_queued(word: u32) -> bool
     ensures { result ≡ queued word }
 {
     queue_cost(word) < NOT_REACHED - 1
 }
 
-// What states are compared by: the cost, then the steps.
+// What states are compared by: the cost, then the steps, as one number that is compared at once.
+#[tactic(auto, unfolding(crate::specs::Inner::Queue::key))]
 fn key_of(words: &[u32], n: usize, s: usize) -> u64
     requires { Roomy n words.now × (s < n) }
     ensures { result ≡ key words.now n s }
 {
     let cost = queue_cost(words[s]);
-    cost as u64 * ABOVE_STEPS + words[n + s] as u64
+    u64::from(cost) * ABOVE_STEPS + u64::from(words[n + s])
 }
 
 // The state that comes first below a node.
+#[tactic(auto, unfolding(crate::specs::Inner::Queue::winner))]
 pub fn winner(words: &[u32], n: usize, node: usize) -> usize
     requires { Roomy n words.now × (node < 2 * n) }
     ensures { result ≡ winner words.now n node }
 {
     if n <= node {
-        return node - n;
+        node - n
+    } else {
+        words[3 * n + node] as usize
     }
-    words[3 * n + node] as usize
 }
 
 // Of two states the one that comes first, a if none does.
+#[tactic(auto, unfolding(crate::specs::Inner::Queue::better))]
 fn better(words: &[u32], n: usize, a: usize, b: usize) -> usize
     requires { Roomy n words.now × (a < n) × (b < n) }
     ensures { (result ≡ better words.now n a b) × (result < n) }
 {
     if key_of(words, n, b) < key_of(words, n, a) {
-        return b;
+        b
+    } else {
+        a
     }
-    a
 }
 
 // A node, from its children.
@@ -69,9 +78,7 @@ pub fn set_nodes(words: &mut [u32], n: usize)
     requires { Roomy n words.old }
     ensures { Played n words.old words.new }
 {
-    let mut node = n;
-    while 1 < node {
-        node -= 1;
+    for node in (1..n).rev() {
         set_node(words, n, node);
     }
 }
@@ -81,10 +88,7 @@ fn sibling(node: usize) -> usize
     requires { (1 < node) × (node < 2048) }
     ensures { Siblings node result }
 {
-    if node % 2 == 0 {
-        return node + 1;
-    }
-    node - 1
+    if node % 2 == 0 { node + 1 } else { node - 1 }
 }
 
 // The nodes above a state whose cost or steps have changed. As many steps as there are variables.
@@ -104,7 +108,7 @@ pub fn lower(words: &mut [u32], n: usize, state: usize)
             first = other;
             first_key = other_key;
         }
-        node = node / 2;
+        node /= 2;
         words[3 * n + node] = first as u32;
     }
 }
@@ -119,11 +123,11 @@ fn climb(words: &mut [u32], n: usize, state: usize, own: u64, node: usize) -> bo
     if first == state {
         return true;
     }
-    if own < key_of(words, n, first) {
+    let comes_first = own < key_of(words, n, first);
+    if comes_first {
         words[3 * n + node] = state as u32;
-        return true;
     }
-    false
+    comes_first
 }
 
 // The nodes above a state that comes no later than before. At most as many steps as there are variables.
@@ -137,6 +141,6 @@ pub fn raise(words: &mut [u32], n: usize, state: usize)
         if !climb(words, n, state, own, node) {
             return;
         }
-        node = node / 2;
+        node /= 2;
     }
 }

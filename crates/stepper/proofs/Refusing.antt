@@ -1,7 +1,7 @@
 -- Laws of the refusals: which number each way out gives, and what stands once none is given. Assumes nothing.
 use Prim.Native.Nat.{ℕ, zero, suc, ◌+◌, ◌≤◌, ◌<◌}
 use native.Mathlib.Omega.{arith}
-use mathlib.Core.Path.{◌≡◌, refl, sym, ◌∙◌}
+use mathlib.Core.Path.{◌≡◌, refl}
 use mathlib.Core.Bool.{Bool, true, false, ◌&&◌}
 use mathlib.Core.List.{List}
 use lib.ListN.{length, get_or}
@@ -37,30 +37,28 @@ unless_rest true n rest d e = e
 unless_rest false n rest d e = absurd (d e)
 
 -- the ways out of `refused_early`
-module _ (l : Lent) (s scratch : List ℕ) (n : ℕ) (checked : n ≡ refusal l) where
-  pub refused_tables : (n ≡ 0 → ⊥) → n ≡ early_refusal l s scratch
+module _ (l : Lent) (s scratch : List ℕ) where
+  pub refused_tables : (n : ℕ) → n ≡ refusal l → (n ≡ 0 → ⊥) → n ≡ early_refusal l s scratch
   unfolding early_refusal
-  refused_tables d = rw (← checked)
+  refused_tables n checked d =
+      rw (← checked)
       (first n (unless (state_kept l.head.variables s) 16 (unless (step_scratch_kept l.head scratch) 14 0)) d)
 
-  module _ (passed : n ≡ 0) where
-    none : refusal l ≡ 0
-    none = sym checked ∙ passed
-
+  module _ (checked : 0 ≡ refusal l) where
     pub refused_length : (length s ≡ l.head.variables → ⊥) → 16 ≡ early_refusal l s scratch
     unfolding early_refusal state_kept
-    refused_length d = rw (none, ne_eqb (length s) l.head.variables d)
+    refused_length d = rw (← checked, ne_eqb (length s) l.head.variables d)
 
-    module _ (size : length s ≡ l.head.variables) (told : Bool) (bits : told ≡ every (length s) (λ v. leb (get_or s v 0) 1)) where
+    module _ (size : length s ≡ l.head.variables) {told : Bool} (bits : told ≡ every (length s) (λ v. leb (get_or s v 0) 1)) where
       pub refused-bits : told ≡ false → 16 ≡ early_refusal l s scratch
       unfolding early_refusal state_kept
-      refused-bits e = rw (none, eq-eqb (length s) l.head.variables size, ← bits, e)
+      refused-bits e = rw (← checked, eq-eqb (length s) l.head.variables size, ← bits, e)
 
       pub refused-room : told ≡ true → length scratch < l.head.formulas + l.head.effects → 14 ≡ early_refusal l s scratch
       unfolding early_refusal state_kept step_scratch_kept
       refused-room e h =
           rw (
-            none,
+            ← checked,
             eq-eqb (length s) l.head.variables size,
             ← bits,
             e,
@@ -71,7 +69,7 @@ module _ (l : Lent) (s scratch : List ℕ) (n : ℕ) (checked : n ≡ refusal l)
       unfolding early_refusal state_kept step_scratch_kept
       not_refused e h =
           rw (
-            none,
+            ← checked,
             eq-eqb (length s) l.head.variables size,
             ← bits,
             e,
@@ -80,7 +78,7 @@ module _ (l : Lent) (s scratch : List ℕ) (n : ℕ) (checked : n ≡ refusal l)
 
 -- once the tables pass, a step may look at them
 module _ (l : Lent) (passed : refusal l ≡ 0) where
-  pub tables_ready : TablesReady l.head l.formulas l.effects l.operators
+  pub tables_ready : TablesReady l
   tables_ready =
       let long = (kept_rules l passed).0 in
       let rules = (kept_rules l passed).1 in
@@ -108,7 +106,7 @@ module _ (l : Lent) (s scratch : List ℕ) (passed : early_refusal l s scratch �
   unfolding early_refusal later
   tables_passed = first_none (refusal l) later passed
 
-  pub ready : Ready l.head l.formulas l.effects l.operators s scratch
+  pub ready : Ready l s scratch
   unfolding early_refusal later state_kept step_scratch_kept
   ready =
       let rest = rest_none (refusal l) later passed in

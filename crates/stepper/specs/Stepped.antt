@@ -1,12 +1,14 @@
 -- What a step gives, refusals too (01, "Stepping and running" and "Where each number is given"): the answer, and the state and the scratch at
 -- exit, from the inputs alone.
-use Rattle.std.specs.Prelude.{ℕ, zero, suc, ◌+◌, ◌≡◌, Bool, false, List, [], ◌∷◌, length, replicate, leb}
+use Rattle.std.specs.Prelude.{ℕ, zero, suc, ◌+◌, ◌≡◌, Bool, false, Result, Ok, Err, List, [], ◌∷◌, length, replicate, leb}
 use Rattle.task.specs.declared.Head.{Head}
+use Rattle.task.specs.declared.refusal.Refusal.{Refusal}
+use Rattle.task.specs.Refused.{number_of}
 use Rattle.task.specs.Table.{Lent, task_of}
 unfoldable pub use Rattle.task.specs.Check.{state_kept}
 use Rattle.task.specs.Check.{refusal, unless}
 use Rattle.task.specs.Run.{Run, Stop, ended, stopped, plain_run}
-use Rattle.stepper.specs.declared.StepOutcome.{StepOutcome}
+use Rattle.stepper.specs.declared.StepOutcome.{StepOutcome as Step}
 
 -- 14: F + E bytes, of any content. One byte fewer is refused even if the operator's own rows would fit.
 unfoldable pub step_scratch_kept : Head → List ℕ → Bool
@@ -21,6 +23,18 @@ first_of (suc n) rest = suc n
 unfoldable pub early_refusal : Lent → (state scratch : List ℕ) → ℕ
 early_refusal l s scratch =
     first_of (refusal l) (unless (state_kept l.head.variables s) 16 (unless (step_scratch_kept l.head scratch) 14 0))
+
+-- A single step. Done: refusal 0, 1 step, its charge, and whether the goal holds after it. Refused: the number, and nothing else.
+pub record StepOutcome : Type 0 where
+  pub refusal : ℕ
+  pub steps : ℕ
+  pub cost : ℕ
+  pub goal : Bool
+
+-- what the code answers, as that
+abbrev pub step_answered : Result Step Refusal → StepOutcome
+step_answered (Ok x) = record { refusal = 0; steps = x.steps; cost = x.cost; goal = x.goal }
+step_answered (Err e) = record { refusal = number_of e; steps = 0; cost = 0; goal = false }
 
 -- What a call of `step` leaves.
 pub record Stepped : Type 0 where

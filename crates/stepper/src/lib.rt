@@ -7,10 +7,9 @@ mod single;
 pub use refusals::refused_early;
 pub use single::step;
 
-// A single step. Done: refusal 0, 1 step, its charge, and whether the goal holds after it. Refused: the number, and nothing else.
-#[derive(Clone, Copy)]
+// A single step that was done: 1 step, what it is charged, and whether the goal holds after it.
+#[derive(Clone, Copy, Debug, PartialEq, Eq)]
 pub struct StepOutcome {
-    pub refusal: u16,
     pub steps: u32,
     pub cost: u64,
     pub goal: bool,

@@ -1,38 +1,24 @@
 // What refuses a step before its operator is looked at.
 ghost use Rattle.std.specs.Prelude.{◌≡◌};
-ghost use Rattle.task.specs.Table.{lent};
+ghost use Rattle.task.specs.Lending.{lent_tables};
+ghost use Rattle.task.specs.Refused.{told};
 ghost use Rattle.stepper.specs.Stepped.{early_refusal};
 
-use task::Head;
 use task::check::{bits, check};
+use task::refusal::Refusal;
+use task::tables::Tables;
 
-// 0, or the first in order: the tables' own number, 16, 14. Linear in the tables and the state.
-pub fn refused_early(
-    head: Head,
-    initial: &[u8],
-    twins: &[u16],
-    formulas: &[u16],
-    effects: &[u16],
-    operators: &[u16],
-    state: &[u8],
-    scratch: &[u8],
-) -> u16
-    ensures { result ≡ early_refusal (lent head initial.now twins.now formulas.now effects.now operators.now) state.now scratch.now }
+// The first in order: the tables' own refusal, a wrong state, too short a scratch. Linear in the tables and the state.
+pub fn refused_early(tables: &Tables<'_>, state: &[u8], scratch: &[u8]) -> Result<(), Refusal>
+    ensures { told result ≡ early_refusal (lent_tables tables.now) state.now scratch.now }
 {
-    let number = check(head, initial, twins, formulas, effects, operators);
-    if number != 0 {
-        return number;
+    check(tables)?;
+    let head = tables.head;
+    if state.len() != head.variables as usize || !bits(state) {
+        return Err(Refusal::State);
     }
-    let variables = head.variables as usize;
-    if state.len() != variables {
-        return 16;
+    if scratch.len() < head.formulas as usize + head.effects as usize {
+        return Err(Refusal::ShortScratch);
     }
-    if !bits(state) {
-        return 16;
-    }
-    let rows = head.formulas as usize + head.effects as usize;
-    if scratch.len() < rows {
-        return 14;
-    }
-    0
+    Ok(())
 }

@@ -1,77 +1,46 @@
 // Single steps.
-ghost use Rattle.std.specs.Prelude.{◌≡◌, false};
-ghost use Rattle.task.specs.Table.{lent};
-ghost use Rattle.operator_step.specs.Inner.Steps.{running, Ready};
-ghost use Rattle.stepper.specs.Stepped.{stepped, StepGives};
+ghost use Rattle.std.specs.Prelude.{◌≡◌};
+ghost use Rattle.task.specs.Lending.{lent_tables};
+ghost use Rattle.stepper.specs.Stepped.{stepped, step_answered, StepGives};
 ghost use Rattle.stepper.specs.Inner.Done.{StepDone};
 
 use crate::StepOutcome;
+use crate::refusals::refused_early;
 use evaluating::holds;
 use operator_step::take;
-use task::Head;
-use task::clear::clear_bytes;
+use task::refusal::Refusal;
+use task::tables::Tables;
 
-// A refused step tells its number and nothing else.
-fn refused(number: u16) -> StepOutcome
-    ensures { result ≡ record { refusal = number; steps = 0; cost = 0; goal = false } }
-{
-    StepOutcome {
-        refusal: number,
-        steps: 0,
-        cost: 0,
-        goal: false,
-    }
-}
-
-// The step where nothing before its operator refuses it.
-fn step_ready(
-    head: Head,
-    formulas: &[u16],
-    effects: &[u16],
-    operators: &[u16],
+// The step, which leaves what it worked with in scratch.
+fn step_done(
+    tables: &Tables<'_>,
     state: &mut [u8],
     number: u16,
     scratch: &mut [u8],
-) -> StepOutcome
-    requires { Ready head formulas.now effects.now operators.now state.old scratch.old }
-    ensures { StepDone (running head formulas.now effects.now operators.now) state.old number result state.new }
+) -> Result<StepOutcome, Refusal>
+    ensures { StepDone (stepped (lent_tables tables.now) state.old number scratch.old) (step_answered result) state.new }
 {
-    let taken = take(head, formulas, effects, operators, state, number, scratch);
-    if taken.stop != 0 {
-        return refused(taken.stop);
-    }
-    let goal = head.goal as usize;
-    StepOutcome {
-        refusal: 0,
+    refused_early(tables, state, scratch)?;
+    let charge = take(tables, state, number, scratch)?;
+    let goal = tables.head.goal as usize;
+    Ok(StepOutcome {
         steps: 1,
-        cost: taken.charge,
-        goal: holds(formulas, goal, state, scratch),
-    }
+        cost: u64::from(charge),
+        goal: holds(tables.formulas, goal, state, scratch),
+    })
 }
 
 // One operator is carried out in the state. Scratch of F + E bytes, of any content, ends as 0.
 // Cost: the check of the tables, then F + E + V.
 pub fn step(
-    head: Head,
-    initial: &[u8],
-    twins: &[u16],
-    formulas: &[u16],
-    effects: &[u16],
-    operators: &[u16],
+    tables: &Tables<'_>,
     state: &mut [u8],
     number: u16,
     scratch: &mut [u8],
-) -> StepOutcome
-    ensures { StepGives (stepped (lent head initial.now twins.now formulas.now effects.now operators.now) state.old number scratch.old) result state.new scratch.new }
+) -> Result<StepOutcome, Refusal>
+    ensures { StepGives (stepped (lent_tables tables.now) state.old number scratch.old) (step_answered result) state.new scratch.new }
 {
-    let early = crate::refusals::refused_early(
-        head, initial, twins, formulas, effects, operators, state, scratch,
-    );
-    if early != 0 {
-        clear_bytes(scratch);
-        return refused(early);
-    }
-    let outcome = step_ready(head, formulas, effects, operators, state, number, scratch);
-    clear_bytes(scratch);
+    let outcome = step_done(tables, state, number, scratch);
+    scratch.fill(0);
     outcome
 }

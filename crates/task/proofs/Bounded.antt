@@ -1,6 +1,6 @@
 -- Laws of `every`, `upto` and `first_number`: what a loop over the numbers below a bound needs. Assumes nothing.
-use Prim.Native.Nat.{ℕ, zero, suc, ◌+◌, ◌-◌, ◌<◌, ◌≤◌}
-use native.Mathlib.Nat.{not-suc-le-zero, sub-zero, suc-ne-zero}
+use Prim.Native.Nat.{ℕ, zero, suc, ◌+◌, ◌<◌, ◌≤◌}
+use native.Mathlib.Nat.{not-suc-le-zero, suc-ne-zero}
 use native.Mathlib.Numerals.{add-one}
 use native.Mathlib.Omega.{arith}
 use mathlib.Core.Path.{◌≡◌, refl, sym, ap, ◌∙◌}
@@ -70,9 +70,9 @@ every_same (suc n) f g h = rw (every_same n f g (λ j l. h j (omega arith)), h n
 pub every_first :
     (test : ℕ → Bool) (n : ℕ) (l : List ℕ)
     → n ≤ length l
-    → every (length (take (n - 0) l)) (λ v. test (get_or (take (n - 0) l) v 0)) ≡ every n (λ v. test (get_or l v 0))
+    → every (length (take n l)) (λ v. test (get_or (take n l) v 0)) ≡ every n (λ v. test (get_or l v 0))
 every_first test n l h =
-    rw (sub-zero n, length-take-le n l h)
+    rw (length-take-le n l h)
     (every_same n (λ (v : ℕ). test (get_or (take n l) v 0)) (λ (v : ℕ). test (get_or l v 0)) (λ j b. ap test (get_or-take n l j 0 b)))
 
 -- how a loop leaves: at a number that fails, or at the bound

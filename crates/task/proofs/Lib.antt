@@ -21,3 +21,4 @@ pub mod Runs
 pub mod Charges
 pub mod Own
 pub mod RowParts
+pub mod Told

@@ -1,10 +1,10 @@
 -- The test of one row passes exactly if the row keeps its rule.
-use Prim.Native.Nat.{ℕ, suc, ◌≤◌, ◌<◌}
+use Prim.Native.Nat.{ℕ, suc, ◌<◌}
 use native.Mathlib.Nat.{suc-ne-zero}
 use mathlib.Core.Path.{◌≡◌, refl}
 use mathlib.Core.Bool.{Bool, true, false, ◌&&◌, false≢true}
 use lib.Dec.{leb, ltb, eqb}
-use borrow.Author.Tests.{leb-true, ltb-true, eqb-true, le-leb, lt-leb, lt-ltb, eq-eqb}
+use borrow.Author.Tests.{leb-true, ltb-true, eqb-true, le-leb, lt-ltb, eq-eqb}
 use Rattle.task.specs.Table.{Operator, FormulaKind, false_kind, true_kind, variable_kind, not_kind, and_kind, or_kind, implies_kind, equivalent_kind, unknown_formula, EffectKind, empty_kind, set_kind, clear_kind, both_kind, under_kind, unknown_effect}
 use Rattle.task.specs.Check.{unless, formula_words_kept, effect_words_kept, operator_kept, percent_kept, operator_number}
 use Rattle.task.specs.Rules.{FormulaRule, EffectRule, OperatorRule}
@@ -99,17 +99,3 @@ pub operator_passes : (f e : ℕ) (o : Operator) → OperatorRule f e o → oper
 unfolding operator_number operator_kept percent_kept
 operator_passes f e o r =
     rw (two_passes o.precondition f o.effect e (r.formula, r.changes), le-leb o.percent 200 r.percent) refl
-
--- the number of an operator, way by way
-module _ (f e : ℕ) (o : Operator) where
-  pub number_12 : operator_kept f e o ≡ false → 12 ≡ operator_number f e o
-  unfolding operator_number
-  number_12 a = rw a
-
-  pub number_24 : operator_kept f e o ≡ true → 200 < o.percent → 24 ≡ operator_number f e o
-  unfolding operator_number percent_kept
-  number_24 a h = rw (a, lt-leb o.percent 200 h)
-
-  pub number_none : operator_kept f e o ≡ true → o.percent ≤ 200 → 0 ≡ operator_number f e o
-  unfolding operator_number percent_kept
-  number_none a h = rw (a, le-leb o.percent 200 h)

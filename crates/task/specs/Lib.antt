@@ -7,4 +7,7 @@ pub mod Tree
 pub mod Run
 pub mod Corresponding
 pub mod Words
+pub mod Refused
+pub mod Kinds
+pub mod Lending
 pub mod Inner

@@ -1,32 +1,28 @@
-// Whether lent tables are long enough for their counts: 5.
+// Whether tables are long enough for their counts.
 ghost use Rattle.std.specs.Prelude.{◌≡◌};
-ghost use Rattle.task.specs.Table.{lent};
-ghost use Rattle.task.specs.Check.{long_enough};
+ghost use Rattle.task.specs.Lending.{lent_tables, table_lengths};
+ghost use Rattle.task.specs.Check.{long_enough, room};
 
+use crate::Head;
 use crate::operator_rows::OPERATOR_WORDS;
+use crate::tables::{Lengths, Tables};
 
-// Constant time: only the lengths are looked at.
-pub fn long_enough(
-    head: crate::Head,
-    initial: &[u8],
-    twins: &[u16],
-    formulas: &[u16],
-    effects: &[u16],
-    operators: &[u16],
-) -> bool
-    ensures { result ≡ long_enough (lent head initial.now twins.now formulas.now effects.now operators.now) }
+// Whether tables of these lengths hold what the head counts. Constant time, as is the one below.
+#[tactic(auto, unfolding(crate::specs::Check::room))]
+pub fn has_room(lengths: Lengths, head: Head) -> bool
+    ensures { result ≡ room (table_lengths lengths) head }
 {
-    if initial.len() < head.variables as usize {
-        return false;
-    }
-    if twins.len() < head.twins as usize {
-        return false;
-    }
-    if formulas.len() < 3 * (head.formulas as usize) {
-        return false;
-    }
-    if effects.len() < 3 * (head.effects as usize) {
-        return false;
-    }
-    OPERATOR_WORDS * (head.operators as usize) <= operators.len()
+    head.variables as usize <= lengths.initial
+        && head.twins as usize <= lengths.twins
+        && 3 * (head.formulas as usize) <= lengths.formulas
+        && 3 * (head.effects as usize) <= lengths.effects
+        && OPERATOR_WORDS * (head.operators as usize) <= lengths.operators
+}
+
+// Only the lengths are looked at.
+#[tactic(auto, unfolding(crate::specs::Check::long_enough))]
+pub fn long_enough(tables: &Tables<'_>) -> bool
+    ensures { result ≡ long_enough (lent_tables tables.now) }
+{
+    has_room(tables.lengths(), tables.head)
 }

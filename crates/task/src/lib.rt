@@ -2,16 +2,18 @@
 #![tactic(auto)]
 
 pub mod check;
-pub mod clear;
 pub mod counts;
+pub mod kinds;
 pub mod lengths;
 pub mod operator_rows;
+pub mod refusal;
 pub mod rows;
 pub mod table_rows;
+pub mod tables;
 
 // What stands before the tables: V variables, W twins ("twin" is the scope's word for an opposite variable), F formulas, E effects,
 // O operators, and the number of the goal's formula.
-#[derive(Clone, Copy)]
+#[derive(Clone, Copy, Debug, PartialEq, Eq)]
 pub struct Head {
     pub variables: u16,
     pub twins: u16,
@@ -22,7 +24,7 @@ pub struct Head {
 }
 
 // The tables of rows.
-#[derive(Clone, Copy)]
+#[derive(Clone, Copy, Debug, PartialEq, Eq)]
 pub enum Table {
     Formulas,
     Effects,
@@ -30,7 +32,7 @@ pub enum Table {
 }
 
 // The words of a row, in their order; a row of three has 0 behind them.
-#[derive(Clone, Copy)]
+#[derive(Clone, Copy, Debug, PartialEq, Eq)]
 pub struct TableRow {
     pub first: u16,
     pub second: u16,

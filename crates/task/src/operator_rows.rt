@@ -1,7 +1,8 @@
 // Rows of operators. How many words they have and which stands where is known here and in specs/Table alone.
 ghost use Rattle.std.specs.Prelude.{◌+◌, ◌*◌, ◌≤◌, ◌≡◌, length};
-ghost use Rattle.task.specs.Table.{operator_width, operator, with_parts, operator_at};
+ghost use Rattle.task.specs.Table.{operator_width, with_parts, operator_at};
 ghost use Rattle.task.specs.Run.{charge_of};
+ghost use Rattle.task.specs.Lending.{operator_of};
 ghost use Rattle.task.specs.Inner.Stored.{operator_stored};
 
 pub const OPERATOR_WORDS: usize = 4;
@@ -9,79 +10,60 @@ pub const OPERATOR_WORDS: usize = 4;
 // What so many operators take as a task may have.
 pub const MOST_OPERATOR_WORDS: usize = OPERATOR_WORDS * 256;
 
-// The precondition of operator o. Constant time, as are all below.
-pub fn precondition_of(operators: &[u16], o: usize) -> u16
-    requires { operator_width * o + operator_width ≤ length operators.now }
-    ensures { result ≡ (operator_at operators.now o).precondition }
-{
-    operators[OPERATOR_WORDS * o]
+// An operator's row, word by word.
+#[repr(C)]
+#[derive(Clone, Copy, Debug, PartialEq, Eq)]
+pub struct OperatorRecord {
+    pub precondition: u16,
+    pub effect: u16,
+    pub cost: u16,
+    pub percent: u16,
 }
 
-// Its effect.
-pub fn effect_of(operators: &[u16], o: usize) -> u16
-    requires { operator_width * o + operator_width ≤ length operators.now }
-    ensures { result ≡ (operator_at operators.now o).effect }
-{
-    operators[OPERATOR_WORDS * o + 1]
+impl OperatorRecord {
+    // What the operator is charged: cost x percent / 100, a half upwards. Constant time, as are all below.
+    #[tactic(auto, unfolding(crate::specs::Run::charge_of))]
+    pub fn charge(self) -> u32
+        ensures { result ≡ charge_of (operator_of self) }
+    {
+        (self.cost as u32 * self.percent as u32 + 50) / 100
+    }
+
+    // The same operator with another precondition and effect.
+    pub fn with_parts(self, precondition: u16, effect: u16) -> OperatorRecord
+        ensures { operator_of result ≡ with_parts (operator_of self) precondition effect }
+    {
+        OperatorRecord {
+            precondition,
+            effect,
+            ..self
+        }
+    }
 }
 
-// Its cost.
-pub fn cost_of(operators: &[u16], o: usize) -> u16
+// Operator o of a table.
+#[tactic(auto, unfolding(crate::specs::Table::operator_at))]
+pub fn operator_at(operators: &[u16], o: usize) -> OperatorRecord
     requires { operator_width * o + operator_width ≤ length operators.now }
-    ensures { result ≡ (operator_at operators.now o).cost }
+    ensures { operator_of result ≡ operator_at operators.now o }
 {
-    operators[OPERATOR_WORDS * o + 2]
-}
-
-// Its percent.
-pub fn percent_of(operators: &[u16], o: usize) -> u16
-    requires { operator_width * o + operator_width ≤ length operators.now }
-    ensures { result ≡ (operator_at operators.now o).percent }
-{
-    operators[OPERATOR_WORDS * o + 3]
-}
-
-// What it is charged: cost x percent / 100, a half upwards.
-pub fn charge_of(operators: &[u16], o: usize) -> u32
-    requires { operator_width * o + operator_width ≤ length operators.now }
-    ensures { result ≡ charge_of (operator_at operators.now o) }
-{
-    let cost = cost_of(operators, o) as u32;
-    let percent = percent_of(operators, o) as u32;
-    (cost * percent + 50) / 100
+    let at = OPERATOR_WORDS * o;
+    OperatorRecord {
+        precondition: operators[at],
+        effect: operators[at + 1],
+        cost: operators[at + 2],
+        percent: operators[at + 3],
+    }
 }
 
 // Stores operator o.
-pub fn store_operator(
-    operators: &mut [u16],
-    o: usize,
-    precondition: u16,
-    effect: u16,
-    cost: u16,
-    percent: u16,
-)
+pub fn store_operator(operators: &mut [u16], o: usize, row: OperatorRecord)
     requires { operator_width * o + operator_width ≤ length operators.old }
-    ensures { operators.new ≡ operator_stored operators.old o (operator precondition effect cost percent) }
+    ensures { operators.new ≡ operator_stored operators.old o (operator_of row) }
 {
     let at = OPERATOR_WORDS * o;
-    operators[at] = precondition;
-    operators[at + 1] = effect;
-    operators[at + 2] = cost;
-    operators[at + 3] = percent;
-}
-
-// Stores operator o as it is in `source`, but with this precondition and this effect.
-pub fn store_with_parts(
-    source: &[u16],
-    o: usize,
-    precondition: u16,
-    effect: u16,
-    operators: &mut [u16],
-)
-    requires { (operator_width * o + operator_width ≤ length source.now) × (operator_width * o + operator_width ≤ length operators.old) }
-    ensures { operators.new ≡ operator_stored operators.old o (with_parts (operator_at source.now o) precondition effect) }
-{
-    let cost = cost_of(source, o);
-    let percent = percent_of(source, o);
-    store_operator(operators, o, precondition, effect, cost, percent);
+    operators[at] = row.precondition;
+    operators[at + 1] = row.effect;
+    operators[at + 2] = row.cost;
+    operators[at + 3] = row.percent;
 }

@@ -1,10 +1,14 @@
 // The part of a table that a row is, and the rule that a row keeps.
-ghost use Rattle.std.specs.Prelude.{◌≤◌, ◌≡◌, ◌&&◌};
-ghost use Rattle.task.specs.Table.{operator, part as row-words-part, row_part, operator_part, formula_kind, effect_kind};
+ghost use Rattle.std.specs.Prelude.{◌≤◌, ◌≡◌};
+ghost use Rattle.task.specs.Table.{part as row-words-part, row_part, operator_part, formula_kind, effect_kind};
 ghost use Rattle.task.specs.Check.{formula_words_kept, effect_words_kept, operator_kept, operator_number};
+ghost use Rattle.task.specs.Lending.{operator_of};
+ghost use Rattle.task.specs.Refused.{told};
 
 use crate::MOST_PERCENT;
-use crate::operator_rows::OPERATOR_WORDS;
+use crate::kinds::{EffectKind, FormulaKind};
+use crate::operator_rows::{OPERATOR_WORDS, OperatorRecord};
+use crate::refusal::Refusal;
 
 // Row `number` of a table of rows so wide, as that part of the table, or the empty part where the table does not hold all of it. Constant time, as
 // are the two below; nothing is copied.
@@ -35,71 +39,57 @@ pub fn operator_row(table: &[u16], number: usize) -> &[u16]
     part(table, OPERATOR_WORDS, number)
 }
 
-fn both(x: bool, y: bool) -> bool
-    ensures { result ≡ (x && y) }
-{
-    if x { y } else { false }
-}
-
-// Whether the words of formula row i are right. Constant time, as are the two below.
+// Whether the words of formula row i are right. Constant time, as are all below.
+#[tactic(auto, unfolding(crate::specs::Check::formula_words_kept, crate::specs::Table::formula_kind))]
 pub fn formula_kept(variables: usize, i: usize, kind: u16, a: u16, b: u16) -> bool
     ensures { result ≡ formula_words_kept variables i (formula_kind kind) a b }
 {
-    match kind {
-        0 | 1 => both(a == 0, b == 0),
-        2 => both((a as usize) < variables, b == 0),
-        3 => both((a as usize) < i, b == 0),
-        4 | 5 | 6 | 7 => both((a as usize) < i, (b as usize) < i),
-        _ => false,
+    let first = a as usize;
+    let second = b as usize;
+    match FormulaKind::try_from(kind) {
+        Ok(FormulaKind::False | FormulaKind::True) => a == 0 && b == 0,
+        Ok(FormulaKind::Variable) => first < variables && b == 0,
+        Ok(FormulaKind::Not) => first < i && b == 0,
+        Ok(FormulaKind::And | FormulaKind::Or | FormulaKind::Implies | FormulaKind::Equivalent) =>
+            first < i && second < i,
+        Err(_) => false,
     }
 }
 
 // Whether the words of effect row i are right.
+#[tactic(auto, unfolding(crate::specs::Check::effect_words_kept, crate::specs::Table::effect_kind))]
 pub fn effect_kept(variables: usize, formulas: usize, i: usize, kind: u16, a: u16, b: u16) -> bool
     ensures { result ≡ effect_words_kept variables formulas i (effect_kind kind) a b }
 {
-    match kind {
-        0 => both(a == 0, b == 0),
-        1 | 2 => both((a as usize) < variables, b == 0),
-        3 => both((a as usize) < i, (b as usize) < i),
-        4 => both((a as usize) < formulas, (b as usize) < i),
-        _ => false,
+    let first = a as usize;
+    let second = b as usize;
+    match EffectKind::try_from(kind) {
+        Ok(EffectKind::Empty) => a == 0 && b == 0,
+        Ok(EffectKind::Set | EffectKind::Clear) => first < variables && b == 0,
+        Ok(EffectKind::Both) => first < i && second < i,
+        Ok(EffectKind::Under) => first < formulas && second < i,
+        Err(_) => false,
     }
 }
 
 // Whether an operator's precondition and effect are rows of their tables.
-fn operator_kept(
-    formulas: usize,
-    effects: usize,
-    precondition: u16,
-    effect: u16,
-    cost: u16,
-    percent: u16,
-) -> bool
-    ensures { result ≡ operator_kept formulas effects (operator precondition effect cost percent) }
+#[tactic(auto, unfolding(crate::specs::Check::operator_kept))]
+fn operator_kept(formulas: usize, effects: usize, row: OperatorRecord) -> bool
+    ensures { result ≡ operator_kept formulas effects (operator_of row) }
 {
-    both(
-        (precondition as usize) < formulas,
-        (effect as usize) < effects,
-    )
+    (row.precondition as usize) < formulas && (row.effect as usize) < effects
 }
 
-// An operator's number: 0, 12 or 24.
-pub fn operator_number(
-    formulas: usize,
-    effects: usize,
-    precondition: u16,
-    effect: u16,
-    cost: u16,
-    percent: u16,
-) -> u16
-    ensures { result ≡ operator_number formulas effects (operator precondition effect cost percent) }
+// The rules of an operator's row: its parts, then its percent.
+#[tactic(auto, unfolding(crate::specs::Check::operator_number, crate::specs::Check::percent_kept))]
+pub fn check_operator(formulas: usize, effects: usize, row: OperatorRecord) -> Result<(), Refusal>
+    ensures { told result ≡ operator_number formulas effects (operator_of row) }
 {
-    if !operator_kept(formulas, effects, precondition, effect, cost, percent) {
-        return 12;
+    if !operator_kept(formulas, effects, row) {
+        return Err(Refusal::Operator);
     }
-    if MOST_PERCENT < percent {
-        return 24;
+    if MOST_PERCENT < row.percent {
+        return Err(Refusal::Percent);
     }
-    0
+    Ok(())
 }

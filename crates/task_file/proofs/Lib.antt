@@ -1,8 +1,7 @@
-pub mod Places
-pub mod RowWords
+pub mod Ways
+pub mod FieldLoop
 pub mod Loops
 pub mod TwinRows
-pub mod StateLoop
-pub mod HeadWays
+pub mod StateWays
 pub mod FillWays
 pub mod ReadWays

@@ -5,20 +5,18 @@ use native.Mathlib.Omega.{arith}
 use mathlib.Core.Path.{◌≡◌, refl, sym, ap, ◌∙◌}
 use mathlib.Core.Bool.{true, false, not}
 use mathlib.Core.List.{List, [], ◌∷◌, ◌++◌}
-use lib.ListN.{length, get_or, take, drop, set, length-set}
-use lib.Seq.{take-suc-set, drop-set-lt, get_or-take, get_or-set_same}
+use lib.ListN.{length, get_or, take, set}
+use lib.Seq.{take-suc-set, get_or-take, get_or-set_same}
 use lib.Dec.{eqb}
+use Rattle.std.proofs.lemmas.List.{take_all}
 use Rattle.task.specs.Bounded.{every}
 use Rattle.task.specs.Check.{twin_kept}
 use Rattle.task.proofs.Bounded.{every_same}
 use Rattle.task.proofs.Refusals.{twin_outside}
 use Rattle.task.proofs.Named.{NamedBy, named_stored, named_more, named_before, named_now}
-use Rattle.task_file.specs.declared.Place.{Place}
-use Rattle.task_file.specs.declared.Place.TheVariants.{At, Nowhere}
 use Rattle.file_format.specs.Parse.{Parsed, parsed, unparsed, next, kept, word_read, table_read}
 use Rattle.file_format.specs.Reading.{twin_read}
-use Rattle.task_file.specs.Inner.Answers.{ReadPart}
-use Rattle.task_file.proofs.Loops.{Done, done_refused, done_end, done_more}
+use Rattle.task_file.proofs.Loops.{one_more, stopped}
 
 -- it looks at the rows up to its own
 twin_same : (bound : ℕ) (xs ys : List ℕ) (k : ℕ) → ((j : ℕ) → j < suc k → get_or xs j 0 ≡ get_or ys j 0) → twin_kept bound xs k ≡ twin_kept bound ys k
@@ -56,22 +54,24 @@ module _ (bound : ℕ) (few : bound ≤ 512) (twins : List ℕ) (k w : ℕ) (fit
         let low : get_or (set twins k w) k 0 < 512 = rw stored_word (omega arith) in
         rw stored_word at (named_more (set twins k w) k named (named_stored twins k named m w) low)
 
-abbrev pub same : ℕ → ℕ
-same k = k
+-- What the loop has done before row k: the rows before it stand in front.
+abbrev pub TwinsDone : (bound : ℕ) (bytes twins rest : List ℕ) (k : ℕ) → Type 0
+TwinsDone bound bytes twins rest k = table_read (twin_read bound) k bytes ≡ parsed (take k twins) rest
 
-module _ (bound count : ℕ) (file : List ℕ) (at : ℕ) (before : List ℕ) where
+pub twins_begin : (bound : ℕ) (bytes twins : List ℕ) → TwinsDone bound bytes twins bytes 0
+unfolding table_read
+twins_begin bound bytes twins = refl
+
+module _ (bound : ℕ) (bytes : List ℕ) where
   abbrev twins_p : ℕ → Parsed (List ℕ)
-  twins_p k = table_read (twin_read bound) k (drop at file)
+  twins_p k = table_read (twin_read bound) k bytes
 
   abbrev twins_q : ℕ → List ℕ → List ℕ → Parsed (List ℕ)
   twins_q k ws rest = next (twin_read bound k ws rest) (λ w. parsed (w ∷ []))
 
-  abbrev pub TwinsDone : List ℕ → ℕ → ℕ → Type 0
-  TwinsDone twins k place = Done same twins_p count file before twins k place
-
   twins_step : (k : ℕ) → twins_p (suc k) ≡ next (twins_p k) (λ ws rest. next (twins_q k ws rest) (λ x. parsed (ws ++ x)))
   unfolding table_read next
-  twins_step k = go (table_read (twin_read bound) k (drop at file))
+  twins_step k = go (table_read (twin_read bound) k bytes)
     where
       last : (done : List ℕ) (o : Parsed ℕ) → next o (λ r. parsed (done ++ (r ∷ []))) ≡ next (next o (λ w. parsed (w ∷ []))) (λ x. parsed (done ++ x))
       last done (unparsed n) = refl
@@ -84,54 +84,21 @@ module _ (bound count : ℕ) (file : List ℕ) (at : ℕ) (before : List ℕ) wh
       go (unparsed n) = refl
       go (parsed done rest) = last done (twin_read bound k done rest)
 
-  pub twins_begin : TwinsDone before 0 at
-  unfolding table_read
-  twins_begin = record { within = omega arith; size = refl; front = refl; behind = refl }
+  module _ (twins rest : List ℕ) (k : ℕ) (done : TwinsDone bound bytes twins rest k) where
+    pub twin_lost : {n : ℕ} → k < length twins → word_read rest ≡ unparsed n → table_read (twin_read bound) (length twins) bytes ≡ unparsed n
+    unfolding twin_read next
+    twin_lost here e = stopped twins_p twins_q twins_step k done (rw e) (length twins) here
 
-  pub twins_ended :
-      (twins : List ℕ) (k place : ℕ) {n : ℕ} {r : Place}
-      → TwinsDone twins k place
-      → k < count
-      → word_read (drop place file) ≡ unparsed n
-      → r ≡ Nowhere n
-      → ReadPart count file (table_read (twin_read bound) count (drop at file)) r before twins
-  unfolding twin_read next
-  twins_ended twins k place d l e f =
-      done_refused same twins_p twins_q twins_step count file before twins k place d l (rw e) f twins refl
+    module _ {w : ℕ} {rest' : List ℕ} (here : k < length twins) (word : word_read rest ≡ parsed w rest') where
+      pub twin_broken : twin_kept bound (set twins k w) k ≡ false → table_read (twin_read bound) (length twins) bytes ≡ unparsed 9
+      unfolding twin_read next kept
+      twin_broken t = stopped twins_p twins_q twins_step k done (rw (word, twin_stored bound twins k w here, t)) (length twins) here
 
-  pub twins_broken :
-      (twins : List ℕ) (k place : ℕ) {w : ℕ} {rest : List ℕ}
-      → count ≤ length before
-      → TwinsDone twins k place
-      → k < count
-      → word_read (drop place file) ≡ parsed w rest
-      → twin_kept bound (set twins k w) k ≡ false
-      → ReadPart count file (table_read (twin_read bound) count (drop at file)) (Nowhere 9) before (set twins k w)
-  unfolding twin_read next kept
-  twins_broken twins k place {w} long d l e t =
-      let fits : k < length twins = omega (arith, d.size) in
-      done_refused same twins_p twins_q twins_step count file before twins k place d l (rw (e, twin_stored bound twins k w fits, t)) refl (set twins k w)
-      (drop-set-lt count twins k w l)
+      pub twin_more : twin_kept bound (set twins k w) k ≡ true → TwinsDone bound bytes (set twins k w) rest' (k + 1)
+      unfolding twin_read next kept
+      twin_more t =
+          one_more twins_p twins_q twins_step k {x = w ∷ []} {rest' = rest'} done (rw (word, twin_stored bound twins k w here, t))
+          ∙ rw (add-one k, take-suc-set twins k w here)
 
-  pub twins_more :
-      (twins : List ℕ) (k place : ℕ) {w next_place : ℕ}
-      → count ≤ length before
-      → TwinsDone twins k place
-      → k < count
-      → word_read (drop place file) ≡ parsed w (drop next_place file)
-      → twin_kept bound (set twins k w) k ≡ true
-      → TwinsDone (set twins k w) (k + 1) next_place
-  unfolding twin_read next kept
-  twins_more twins k place {w} long d l e t =
-      let fits : k < length twins = omega (arith, d.size) in
-      done_more same twins_p twins_q twins_step count file before twins (set twins k w) k place d l (rw (e, twin_stored bound twins k w fits, t))
-      (length-set twins k w)
-      (ap (λ (n : ℕ). take n (set twins k w)) (add-one k) ∙ take-suc-set twins k w fits)
-      (drop-set-lt count twins k w l)
-
-  pub twins_end :
-      (twins : List ℕ) (k place : ℕ)
-      → TwinsDone twins k place
-      → count ≤ k
-      → ReadPart count file (table_read (twin_read bound) count (drop at file)) (At place) before twins
-  twins_end twins k place d l = done_end same twins_p twins_q twins_step count file before twins k place d l
+    pub twins_end : length twins ≤ k → table_read (twin_read bound) k bytes ≡ parsed twins rest
+    twins_end past = done ∙ ap {B = Parsed (List ℕ)} (λ (ws : List ℕ). parsed ws rest) (take_all k twins past)

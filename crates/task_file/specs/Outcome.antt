@@ -1,10 +1,21 @@
 -- What the call that reads leaves: its answer and each lent table (01, "Where each number is given": after a refusal every output buffer is all 0; after
 -- success, all past the answer is 0).
-use Rattle.std.specs.Prelude.{ℕ, List, replicate}
+use Rattle.std.specs.Prelude.{ℕ, List, replicate, Result, Ok, Err}
+use Rattle.task.specs.declared.Head.{Head}
+use Rattle.task.specs.declared.refusal.Refusal.{Refusal}
+use Rattle.task.specs.Refused.{number_of}
 use Rattle.task.specs.Words.{padded, head_of, words_of, operator_words}
-use Rattle.task_file.specs.declared.ReadAnswer.{ReadAnswer}
-use Rattle.task_file.specs.declared.ReadAnswer.TheVariants.{Read, Refused}
 use Rattle.file_format.specs.Reading.{Lengths, Verdict, accepted, rejected, reading}
+
+-- the head of the tables that were filled, or the number of the refusal
+pub data ReadAnswer : Type 0 where
+  Read : Head → ReadAnswer
+  Refused : ℕ → ReadAnswer
+
+-- the code's answer as that
+abbrev pub read_answered : Result Head Refusal → ReadAnswer
+read_answered (Ok head) = Read head
+read_answered (Err refusal) = Refused (number_of refusal)
 
 pub record ReadOutcome : Type 0 where
   pub answer : ReadAnswer

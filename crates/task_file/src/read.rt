@@ -1,33 +1,16 @@
 // Reading a task file.
 ghost use Rattle.std.specs.Prelude.{◌≡◌, length};
-ghost use Rattle.task_file.specs.Inner.Answers.{no_task, lost_place};
-ghost use Rattle.task_file.specs.Outcome.{lengths};
-ghost use Rattle.task_file.specs.Outcome.{read_left, read_outcome};
+ghost use Rattle.file_format.specs.Reading.{reading};
+ghost use Rattle.task_file.specs.Outcome.{lengths, read_answered, read_left, read_outcome};
 ghost use Rattle.task_file.specs.Inner.Filled.{Filled};
 
-use crate::{HeadAnswer, Place, ReadAnswer};
+use crate::clear::{clear_behind, clear_tables};
+use crate::reader::Reader;
+use task::Head;
+use task::refusal::Refusal;
+use task::tables::Lengths;
 
-// The head's refusal, as the answer. Constant time.
-fn no_head(h: HeadAnswer) -> ReadAnswer
-    ensures { result ≡ no_task h }
-{
-    match h {
-        HeadAnswer::NoHead(n) => ReadAnswer::Refused(n),
-        HeadAnswer::Counts { head: _, next: _ } => ReadAnswer::Refused(0),
-    }
-}
-
-// A table's refusal, as the answer. Constant time.
-fn lost(p: Place) -> ReadAnswer
-    ensures { result ≡ lost_place p }
-{
-    match p {
-        Place::Nowhere(n) => ReadAnswer::Refused(n),
-        Place::At(_) => ReadAnswer::Refused(0),
-    }
-}
-
-// A file into the front of the tables. After a refusal they are left as they came out.
+// A file into the front of the tables, and 0 into all behind. After a refusal they are left as they came out.
 fn fill(
     file: &[u8],
     initial: &mut [u8],
@@ -35,30 +18,21 @@ fn fill(
     formulas: &mut [u16],
     effects: &mut [u16],
     operators: &mut [u16],
-) -> ReadAnswer
-    ensures { Filled (lengths (length initial.old) (length twins.old) (length formulas.old) (length effects.old) (length operators.old)) file.now result initial.old twins.old formulas.old effects.old operators.old initial.new twins.new formulas.new effects.new operators.new }
+) -> Result<Head, Refusal>
+    ensures { let l = lengths (length initial.old) (length twins.old) (length formulas.old) (length effects.old) (length operators.old) in Filled l (reading l file.now) result initial.new twins.new formulas.new effects.new operators.new }
 {
-    let h = crate::read_head::read_kept_head(
-        file,
-        initial.len(),
-        twins.len(),
-        formulas.len(),
-        effects.len(),
-        operators.len(),
-    );
-    let HeadAnswer::Counts { head, next } = h else {
-        return no_head(h);
-    };
-    let p = crate::fill::fill_tables(
-        head, file, next, initial, twins, formulas, effects, operators,
-    );
-    let Place::At(end) = p else {
-        return lost(p);
-    };
-    if end < file.len() {
-        return ReadAnswer::Refused(4);
-    }
-    ReadAnswer::Read(head)
+    let mut reader = Reader::new(file);
+    let head = reader.kept_head(Lengths {
+        initial: initial.len(),
+        twins: twins.len(),
+        formulas: formulas.len(),
+        effects: effects.len(),
+        operators: operators.len(),
+    })?;
+    reader.tables(head, initial, twins, formulas, effects, operators)?;
+    reader.end()?;
+    clear_behind(head, initial, twins, formulas, effects, operators);
+    Ok(head)
 }
 
 // Reads a task file into lent tables. One pass over the file; clearing is linear in what is lent.
@@ -69,14 +43,12 @@ pub fn read(
     formulas: &mut [u16],
     effects: &mut [u16],
     operators: &mut [u16],
-) -> ReadAnswer
-    ensures { read_left result initial.new twins.new formulas.new effects.new operators.new ≡ read_outcome (lengths (length initial.old) (length twins.old) (length formulas.old) (length effects.old) (length operators.old)) file.now }
+) -> Result<Head, Refusal>
+    ensures { read_left (read_answered result) initial.new twins.new formulas.new effects.new operators.new ≡ read_outcome (lengths (length initial.old) (length twins.old) (length formulas.old) (length effects.old) (length operators.old)) file.now }
 {
-    crate::clear::clear_tables(initial, twins, formulas, effects, operators);
-    let r = fill(file, initial, twins, formulas, effects, operators);
-    let ReadAnswer::Read(head) = r else {
-        crate::clear::clear_tables(initial, twins, formulas, effects, operators);
-        return r;
-    };
-    ReadAnswer::Read(head)
+    let answer = fill(file, initial, twins, formulas, effects, operators);
+    if answer.is_err() {
+        clear_tables(initial, twins, formulas, effects, operators);
+    }
+    answer
 }

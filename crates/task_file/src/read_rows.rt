@@ -1,64 +1,44 @@
 // The tables of rows.
-ghost use Rattle.std.specs.Prelude.{◌≡◌, ◌*◌, ◌≤◌, length, drop};
+ghost use Rattle.std.specs.Prelude.{◌≡◌, ◌*◌, length};
 ghost use Rattle.task.specs.Inner.Tables.{width};
-ghost use Rattle.task_file.specs.Inner.Answers.{lost_row, ReadPart};
+ghost use Rattle.task_file.specs.Inner.Answers.{left_as, refused_row};
 ghost use Rattle.task_file.specs.Inner.Tables.{words_read};
 
-use crate::{Place, Row};
+use crate::read_row::Row;
+use crate::reader::Reader;
+use task::refusal::Refusal;
 use task::table_rows::store_row;
-use task::{Head, Table, TableRow};
+use task::{Head, Table};
 
 // A row's refusal, as that of its table. Constant time.
-fn refused(r: Row) -> Place
-    ensures { result ≡ lost_row r }
+fn refused(row: Row) -> Result<(), Refusal>
+    ensures { result ≡ refused_row row }
 {
-    match r {
-        Row::NoRow(n) => Place::Nowhere(n),
-        Row::Words {
-            first: _,
-            second: _,
-            third: _,
-            fourth: _,
-            next: _,
-        } => Place::Nowhere(0),
+    match row {
+        Row::NoRow(refusal) => Err(refusal),
+        Row::Words(_) => Ok(()),
     }
 }
 
-// The rows of a table, into the front of `words`. Linear in the count.
-pub fn read_rows(
-    table: Table,
-    head: Head,
-    count: usize,
-    file: &[u8],
-    at: usize,
-    words: &mut [u16],
-) -> Place
-    requires { width table * count ≤ length words.old }
-    ensures { ReadPart (width table * count) file.now (words_read table head count (drop at file.now)) result words.old words.new }
-{
-    let mut i = 0;
-    let mut place = at;
-    while i < count {
-        let r = crate::read_row::read_kept(table, head, i, file, place);
-        let Row::Words {
-            first,
-            second,
-            third,
-            fourth,
-            next,
-        } = r
-        else {
-            return refused(r);
-        };
-        let row = TableRow {
-            first,
-            second,
-            third,
-            fourth,
-        };
-        store_row(table, words, i, row);
-        place = next;
-        i += 1;
+impl Reader<'_> {
+    // So many rows of a table, as `words`. Linear in the count.
+    pub fn rows(
+        &mut self,
+        table: Table,
+        head: Head,
+        count: usize,
+        words: &mut [u16],
+    ) -> Result<(), Refusal>
+        requires { length words.old ≡ width table * count }
+        ensures { left_as words.new result self.new ≡ words_read table head count self.old }
+    {
+        for i in 0..count {
+            let row = self.row(table, head, i);
+            let Row::Words(kept) = row else {
+                return refused(row);
+            };
+            store_row(table, words, i, kept);
+        }
+        Ok(())
     }
-    Place::At(place)
 }

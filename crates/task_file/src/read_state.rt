@@ -1,56 +1,46 @@
 // The initial state.
-ghost use Rattle.std.specs.Prelude.{◌≡◌, ◌+◌, ◌-◌, ◌≤◌, ◌<◌, length, take, drop};
+ghost use Rattle.std.specs.Prelude.{◌≡◌, ◌≤◌, ◌<◌, length};
 ghost use Rattle.task.specs.Bounded.{upto};
 ghost use Rattle.file_format.specs.Bytes.{bytes_for};
 ghost use Rattle.file_format.specs.Reading.{bit_of, spare_clear, initial_read};
-ghost use Rattle.task_file.specs.Inner.Answers.{ReadPart, Unpacked};
+ghost use Rattle.task_file.specs.Inner.Answers.{left_as};
 
-use crate::Place;
-
-// The bytes from `at` to the end. Constant time.
-fn left(file: &[u8], at: usize) -> usize
-    ensures { result ≡ length file.now - at }
-{
-    if at < file.len() { file.len() - at } else { 0 }
-}
+use crate::reader::Reader;
+use task::refusal::Refusal;
 
 // Whether the bits behind the last of `count` variables are 0. Constant time.
-fn spare_clear(file: &[u8], at: usize, count: usize) -> bool
-    requires { bytes_for count ≤ length file.now - at }
-    ensures { result ≡ spare_clear (drop at file.now) count }
+#[tactic(auto, unfolding(file_format::specs::Reading::spare_clear, file_format::specs::Bytes::bytes_for))]
+fn spare_clear(packed: &[u8], count: usize) -> bool
+    requires { bytes_for count ≤ length packed.now }
+    ensures { result ≡ spare_clear packed.now count }
 {
-    if count % 8 == 0 {
-        return true;
-    }
-    let byte = file[at + count / 8];
-    byte >> (count % 8) == 0
+    count % 8 == 0 || packed[count / 8] >> (count % 8) == 0
 }
 
-// Variable v of a packed state, from bit v mod 8 of byte v / 8, for each of `count` variables. Linear.
-fn unpack(file: &[u8], at: usize, count: usize, initial: &mut [u8])
-    requires { (bytes_for count ≤ length file.now - at) × (count ≤ length initial.old) }
-    ensures { Unpacked count (drop at file.now) initial.old initial.new }
+// Variable v of a packed state, from bit v mod 8 of byte v / 8, for each variable. Linear.
+#[tactic(auto, unfolding(file_format::specs::Bytes::bytes_for, file_format::specs::Reading::bit_of, task::specs::Bounded::upto))]
+fn unpack(packed: &[u8], initial: &mut [u8])
+    requires { bytes_for (length initial.old) ≤ length packed.now }
+    ensures { initial.new ≡ upto (length initial.old) (bit_of packed.now) }
 {
-    let mut v = 0;
-    while v < count {
-        let byte = file[at + v / 8];
-        initial[v] = (byte >> (v % 8)) % 2;
-        v += 1;
+    for (v, bit) in initial.iter_mut().enumerate() {
+        *bit = (packed[v / 8] >> (v % 8)) % 2;
     }
 }
 
-// The initial state of `count` variables, into the front of `initial`. Linear.
-pub fn read_state(file: &[u8], at: usize, count: usize, initial: &mut [u8]) -> Place
-    requires { (count ≤ length initial.old) × (count < 65536) }
-    ensures { ReadPart count file.now (initial_read count (drop at file.now)) result initial.old initial.new }
-{
-    let bytes = (count + 7) / 8;
-    if left(file, at) < bytes {
-        return Place::Nowhere(1);
+impl Reader<'_> {
+    // The initial state, as `initial`: a byte a variable. Linear.
+    #[tactic(auto, using(crate::proofs::Ways::returned_left, crate::proofs::StateWays::state_short, crate::proofs::StateWays::state_unclear, crate::proofs::StateWays::state_there), unfolding(file_format::specs::Bytes::bytes_for))]
+    pub fn state(&mut self, initial: &mut [u8]) -> Result<(), Refusal>
+        requires { length initial.old < 65536 }
+        ensures { left_as initial.new result self.new ≡ initial_read (length initial.old) self.old }
+    {
+        let count = initial.len();
+        let packed = self.bytes((count + 7) / 8)?;
+        if !spare_clear(packed, count) {
+            return Err(Refusal::SpareBit);
+        }
+        unpack(packed, initial);
+        Ok(())
     }
-    if !spare_clear(file, at, count) {
-        return Place::Nowhere(2);
-    }
-    unpack(file, at, count, initial);
-    Place::At(at + bytes)
 }

@@ -1,45 +1,27 @@
 // The originals of the twins.
-ghost use Rattle.std.specs.Prelude.{◌≡◌, ◌≤◌, length, drop};
+ghost use Rattle.std.specs.Prelude.{◌≡◌, ◌≤◌, length};
 ghost use Rattle.file_format.specs.Parse.{table_read};
 ghost use Rattle.file_format.specs.Reading.{twin_read};
-ghost use Rattle.task_file.specs.Inner.Answers.{lost_word, ReadPart};
+ghost use Rattle.task_file.specs.Inner.Answers.{left_as};
 
-use crate::{Field, Place};
+use crate::reader::Reader;
+use task::refusal::Refusal;
 
-// A word's refusal, as that of its table. Constant time.
-fn refused(f: Field) -> Place
-    ensures { result ≡ lost_word f }
-{
-    match f {
-        Field::NoWord(n) => Place::Nowhere(n),
-        Field::Word { word: _, next: _ } => Place::Nowhere(0),
-    }
-}
-
-// The originals, into the front of `twins`. Linear: a byte for each variable tells whether a row has named it.
-pub fn read_twins(file: &[u8], at: usize, count: usize, bound: usize, twins: &mut [u16]) -> Place
-    requires { (count ≤ length twins.old) × (bound ≤ 512) }
-    ensures { ReadPart count file.now (table_read (twin_read bound) count (drop at file.now)) result twins.old twins.new }
-{
-    let mut named = [0u8; 512];
-    let mut k = 0;
-    let mut place = at;
-    while k < count {
-        let f = crate::word::read_word(file, place);
-        let Field::Word { word, next } = f else {
-            return refused(f);
-        };
-        let original = word as usize;
-        twins[k] = word;
-        if bound <= original {
-            return Place::Nowhere(9);
+impl Reader<'_> {
+    // The originals, as `twins`. Linear: a byte for each variable tells whether a row has named it.
+    pub fn twins(&mut self, bound: usize, twins: &mut [u16]) -> Result<(), Refusal>
+        requires { bound ≤ 512 }
+        ensures { left_as twins.new result self.new ≡ table_read (twin_read bound) (length twins.old) self.old }
+    {
+        let mut named = [0u8; 512];
+        for twin in twins {
+            *twin = self.word()?;
+            let original = *twin as usize;
+            if bound <= original || named[original] != 0 {
+                return Err(Refusal::Twin);
+            }
+            named[original] = 1;
         }
-        if named[original] != 0 {
-            return Place::Nowhere(9);
-        }
-        named[original] = 1;
-        place = next;
-        k += 1;
+        Ok(())
     }
-    Place::At(place)
 }

@@ -1,16 +1,20 @@
 -- Bytes put one after the other. Assumes nothing.
-use Prim.Native.Nat.{ℕ, suc, ◌+◌, ◌*◌, ◌/◌, ◌%◌, ◌≤◌}
+use Prim.Native.Nat.{ℕ, suc, ◌+◌, ◌-◌, ◌*◌, ◌/◌, ◌%◌, ◌^◌, ◌<◌, ◌≤◌}
 use native.Mathlib.Nat.{add-zero, add-suc, suc-add}
+use native.Mathlib.Numerals.{add-one}
 use native.Mathlib.Omega.{arith}
 use mathlib.Core.Path.{◌≡◌, refl, sym, ap, ◌∙◌}
-use mathlib.Core.List.{List, [], ◌∷◌, ◌++◌}
-use lib.ListN.{length, set, length-append}
-use lib.Seq.{sets, length-sets, set_out}
-use Rattle.task.specs.declared.Head.{Head}
-use Rattle.task.specs.Words.{operator_row_words}
-use Rattle.task.specs.Table.{operator}
-use Rattle.file_format.specs.Bytes.{word_bytes, field_bytes, present, fields_bytes, map_of, zeros, head_defaults, operator_defaults, head_fields, head_bytes, row_bytes, operator_bytes}
-use Rattle.file_format.proofs.Fields.{absent, there, fields_append, field_length, fields_length}
+use mathlib.Core.Bool.{Bool, true, false, cond, not}
+use mathlib.Core.List.{List, [], ◌∷◌, ◌++◌, append-nil}
+use lib.ListN.{length, get_or, set, take, drop, length-append, length-drop, drop_of_length-le}
+use lib.Dec.{eqb}
+use mir.Val.{bool_byte}
+use lib.Pow.{pow_mono}
+use lib.Seq.{sets, length-sets, length-take-le, drop-cons}
+use Rattle.std.proofs.lemmas.List.{take_more}
+use Rattle.std.specs.Int.{w16, to_le_bytes}
+use Rattle.file_format.specs.Bytes.{word_bytes, field_bytes, present, fields_bytes, map_of}
+use Rattle.file_format.proofs.Fields.{fields_append, fields_length, map_lt}
 use Rattle.task_writer.specs.Inner.Putting.{Put}
 
 sets_append : (l : List ℕ) (i : ℕ) (xs ys : List ℕ) → sets l i (xs ++ ys) ≡ sets (sets l i xs) (i + length xs) ys
@@ -40,84 +44,78 @@ put_same e p = rw (← e) p
 pub put_size : {xs : List ℕ} {at r : ℕ} {o o1 : List ℕ} → Put xs at r o o1 → length o1 ≡ length o
 put_size {xs} {at} {r} {o} {o1} p = ap length p.wrote ∙ length-sets o at xs
 
-pub byte_put : (out : List ℕ) (at x : ℕ) → Put (x ∷ []) at (at + 1) out (set out at x)
-byte_put out at x = record { wrote = refl; next = refl }
+-- something behind what is there, as one
+pub put_more : {xs ys zs : List ℕ} {at r s : ℕ} {o o1 o2 : List ℕ} → xs ++ ys ≡ zs → Put xs at r o o1 → Put ys r s o1 o2 → Put zs at s o o2
+put_more e p q = put_same e (put_then p q)
 
-pub byte_counted : (out : List ℕ) (at x : ℕ) → length out ≤ at → Put (x ∷ []) at (at + 1) out out
-byte_counted out at x h = record { wrote = sym (set_out out at x h); next = refl }
+pub byte_more : (bytes : List ℕ) (i : ℕ) → i < length bytes → take i bytes ++ (get_or bytes i 0 ∷ []) ≡ take (i + 1) bytes
+byte_more bytes i h = sym (take_more bytes i 0 h)
 
-pub word_put : (w : ℕ) {at r s : ℕ} {o o1 o2 : List ℕ} → Put (w % 256 ∷ []) at r o o1 → Put (w / 256 ∷ []) r s o1 o2 → Put (word_bytes w) at s o o2
+-- the library's two bytes of a word
+pub le_word : (w : ℕ) → w < 65536 → to_le_bytes w16 w ≡ word_bytes w
 unfolding word_bytes
-word_put w p q = put_then p q
+le_word w h =
+    let low : w % 256 ≡ w % 256 = refl in
+    let high : w / 256 % 256 ≡ w / 256 = omega arith in
+    ap (λ (x : ℕ). w % 256 ∷ (x ∷ [])) high
 
-pub field_none : (default w at : ℕ) (out : List ℕ) → w ≡ default → Put (field_bytes default w) at at out out
-field_none default w at out e = rw (absent default w e).bytes (put_none at out)
-
-pub field_put :
-    (default w : ℕ) {at r : ℕ} {o o1 : List ℕ} → (w ≡ default → ⊥) → Put (word_bytes w) at r o o1 → Put (field_bytes default w) at r o o1
-field_put default w h p = rw (there default w h).bytes p
-
-pub three_put :
-    (a b c : ℕ) {at r s t : ℕ} {o o1 o2 o3 : List ℕ}
-    → Put (field_bytes 0 a) at r o o1
-    → Put (field_bytes 0 b) r s o1 o2
-    → Put (field_bytes 0 c) s t o2 o3
-    → Put (fields_bytes zeros (a ∷ b ∷ c ∷ [])) at t o o3
+-- one field more
+pub fields_more :
+    (ds ws : List ℕ) (k : ℕ)
+    → k < length ds
+    → k < length ws
+    → fields_bytes (take k ds) (take k ws) ++ field_bytes (get_or ds k 0) (get_or ws k 0)
+    ≡ fields_bytes (take (k + 1) ds) (take (k + 1) ws)
 unfolding fields_bytes
-three_put a b c {t = t} {o3 = o3} p q r = put_then p (put_then q (put_then r (put_none t o3)))
+fields_more ds ws k h l =
+    let same : length (take k ws) ≡ length (take k ds) = omega (arith, length-take-le k ws (omega arith), length-take-le k ds (omega arith)) in
+    sym
+    (rw (take_more ds k 0 h, take_more ws k 0 l)
+    (fields_append (take k ds) (get_or ds k 0 ∷ []) (take k ws) (get_or ws k 0 ∷ []) same
+    ∙ ap (λ (x : List ℕ). fields_bytes (take k ds) (take k ws) ++ x) (append-nil (field_bytes (get_or ds k 0) (get_or ws k 0)))))
 
-pub field_next : (default w : ℕ) {at r : ℕ} {o o1 : List ℕ} → Put (field_bytes default w) at r o o1 → r ≤ at + 2
-field_next default w p = omega (arith, p.next, field_length default w)
+pub fields_reach : (ds ws : List ℕ) (k : ℕ) → k ≤ length ds → length (fields_bytes (take k ds) (take k ws)) ≤ 2 * k
+fields_reach ds ws k h = omega (arith, fields_length (take k ds) (take k ws), length-take-le k ds h)
 
-pub mapped_next : (a b c : ℕ) {m at r : ℕ} {o o1 : List ℕ} → Put (m ∷ fields_bytes zeros (a ∷ b ∷ c ∷ [])) at r o o1 → r ≤ at + 7
-mapped_next a b c p = omega (arith, p.next, fields_length zeros (a ∷ b ∷ c ∷ []))
+-- whether a field is there, as the code has it
+pub bit_is : (d w : ℕ) → bool_byte (not (eqb w d)) ≡ present d w
+unfolding present
+bit_is d w = go (eqb w d)
+  where
+    go : (b : Bool) → bool_byte (not b) ≡ cond b 0 1
+    go true = refl
+    go false = refl
 
-pub kind_put :
-    (kind a b : ℕ) {m at r : ℕ} {o o1 : List ℕ}
-    → Put (m ∷ fields_bytes zeros (a ∷ b ∷ 0 ∷ [])) at r o o1
-    → m ≡ present 0 a + 2 * present 0 b + 16 * kind
-    → Put (row_bytes (record { kind = kind; a = a; b = b })) at r o o1
-unfolding row_bytes fields_bytes map_of
-kind_put kind a b {m} p e =
-    let s : m ≡ present 0 a + 2 * (present 0 b + 2 * 0) + 16 * kind = omega arith in
-    put_same
-    (rw (absent 0 0 refl).bytes (ap {B = List ℕ} (λ (k : ℕ). k ∷ (field_bytes 0 a ++ (field_bytes 0 b ++ []))) s)) p
+-- a map, from the last field to the first
+pub map_none : (ds ws : List ℕ) (n : ℕ) → length ds ≤ n → 0 ≡ map_of (drop n ds) (drop n ws)
+unfolding map_of
+map_none ds ws n h = rw (drop_of_length-le ds h)
 
-pub operator_put :
-    (p e c r : ℕ) {m at x y : ℕ} {o o1 o2 : List ℕ}
-    → Put (m ∷ fields_bytes zeros (p ∷ e ∷ c ∷ [])) at x o o1
-    → Put (field_bytes 100 r) x y o1 o2
-    → m ≡ present 0 p + 2 * present 0 e + 4 * present 0 c + 8 * present 100 r
-    → Put (operator_bytes (operator p e c r)) at y o o2
-unfolding operator_bytes operator_row_words map_of fields_bytes
-operator_put p e c r {m} {y = y} {o2 = o2} put last q =
-    let front : List ℕ = p ∷ e ∷ c ∷ [] in
-    let s : m ≡ present 0 p + 2 * (present 0 e + 2 * (present 0 c + 2 * (present 100 r + 2 * 0))) = omega arith in
-    put_same
-    (ap {B = List ℕ} (λ (k : ℕ). k ∷ (fields_bytes zeros front ++ fields_bytes (100 ∷ []) (r ∷ []))) s
-    ∙ ap {B = List ℕ} (λ (x : List ℕ). map_of operator_defaults (p ∷ e ∷ c ∷ r ∷ []) ∷ x) (sym (fields_append zeros (100 ∷ []) front (r ∷ []) refl)))
-    (put_then put (put_then last (put_none y o2)))
+map_more :
+    (ds ws : List ℕ) (i : ℕ)
+    → i < length ds
+    → i < length ws
+    → 2 * map_of (drop (i + 1) ds) (drop (i + 1) ws) + present (get_or ds i 0) (get_or ws i 0) ≡ map_of (drop i ds) (drop i ws)
+unfolding map_of
+map_more ds ws i h l =
+    rw (add-one, drop-cons ds i 0 h, drop-cons ws i 0 l)
+    (omega arith)
 
-pub head_put :
-    {m r s : ℕ} {o o1 o2 : List ℕ} (h : Head)
-    → Put (m ∷ fields_bytes zeros (h.variables ∷ h.twins ∷ h.formulas ∷ [])) 0 r o o1
-    → Put (fields_bytes zeros (h.effects ∷ h.operators ∷ h.goal ∷ [])) r s o1 o2
-    → m
-    ≡ present 0 h.variables + 2 * present 0 h.twins + 4 * present 0 h.formulas
-    + 8 * (present 0 h.effects + 2 * present 0 h.operators + 4 * present 0 h.goal)
-    → Put (head_bytes h) 0 s o o2
-unfolding head_bytes head_fields map_of
-head_put {m} h p q e =
-    let lower : List ℕ = h.variables ∷ h.twins ∷ h.formulas ∷ [] in
-    let upper : List ℕ = h.effects ∷ h.operators ∷ h.goal ∷ [] in
-    let k : m ≡ map_of head_defaults (lower ++ upper) = omega arith in
-    put_same
-    (ap {B = List ℕ} (λ (x : ℕ). x ∷ (fields_bytes zeros lower ++ fields_bytes zeros upper)) k
-    ∙ ap {B = List ℕ} (λ (x : List ℕ). map_of head_defaults (lower ++ upper) ∷ x) (sym (fields_append zeros zeros lower upper refl)))
-    (put_then p q)
+-- the field that a walk from the end comes to, with i fields to go
+pub map_turn :
+    (ds ws : List ℕ) (i x : ℕ)
+    → 0 < i
+    → i ≤ length ds
+    → i ≤ length ws
+    → x ≡ map_of (drop i ds) (drop i ws)
+    → 2 * x + present (get_or ds (i - 1) 0) (get_or ws (i - 1) 0) ≡ map_of (drop (i - 1) ds) (drop (i - 1) ws)
+map_turn ds ws i x some h l e =
+    let back : i - 1 + 1 ≡ i = omega arith in
+    ap (λ (y : ℕ). 2 * y + present (get_or ds (i - 1) 0) (get_or ws (i - 1) 0)) e
+    ∙ (rw back at (map_more ds ws (i - 1) (omega arith) (omega arith)))
 
-pub present_none : (default w : ℕ) → w ≡ default → (0 ≡ present default w) × (0 ≤ 1)
-present_none default w e = (sym (absent default w e).bit, omega arith)
-
-pub present_one : (default w : ℕ) → (w ≡ default → ⊥) → (1 ≡ present default w) × (1 ≤ 1)
-present_one default w h = (sym (there default w h).bit, omega arith)
+pub map_fits : (ds ws : List ℕ) (n : ℕ) → length ds ≤ 6 → map_of (drop n ds) (drop n ws) < 64
+map_fits ds ws n h =
+    let few : length (drop n ds) ≤ 6 = omega (arith, length-drop n ds) in
+    let most : 2 ^ length (drop n ds) ≤ 2 ^ 6 = pow_mono few in
+    omega (arith, map_lt (drop n ds) (drop n ws))

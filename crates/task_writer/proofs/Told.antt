@@ -22,10 +22,8 @@ use Rattle.task.proofs.Fronts.{rows_front, operators_front}
 use Rattle.file_format.specs.Bytes.{file_of}
 use Rattle.file_format.specs.Reading.{Lengths, Verdict, accepted, rejected, reading}
 use Rattle.file_format.proofs.Parse.{Bytes}
-use Rattle.task_file.specs.declared.ReadAnswer.TheVariants.{Read}
-use Rattle.task_file.specs.Outcome.{ReadOutcome, outcome_of, read_outcome}
-use Rattle.task_writer.specs.declared.WriteAnswer.TheVariants.{Written, NotWritten}
-use Rattle.task_writer.specs.Writing.{WriteOutcome, wrote, file_outcome, write_outcome}
+use Rattle.task_file.specs.Outcome.{Read, ReadOutcome, outcome_of, read_outcome}
+use Rattle.task_writer.specs.Writing.{WriteOutcome, Written, NotWritten, wrote, file_outcome, write_outcome}
 use Rattle.task_writer.proofs.WriteWays.{same_head}
 use Rattle.task_writer.proofs.Calls.{read_after_write, write_after_read}
 

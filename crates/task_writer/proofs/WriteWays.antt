@@ -7,9 +7,14 @@ use mathlib.Core.Path.{◌≡◌, sym, ap, ◌∙◌}
 use mathlib.Core.Bool.{true, false, false≢true}
 use mathlib.Core.List.{List, [], ◌∷◌, ◌++◌}
 use lib.ListN.{length, get_or, take, drop, replicate, length-append, length-replicate, get_or-eq_default}
-use lib.Seq.{sets-eq, length-take-le}
+use lib.Seq.{sets-eq, length-take-le, get_or-take}
 use lib.Dec.{leb, eqb}
 use borrow.Author.Tests.{le-leb, lt-leb, eq-eqb, ne_eqb}
+use Rattle.std.specs.Prelude.{Result, Ok, Err}
+use Rattle.std.specs.Result.{IsErrAnd}
+use Rattle.task.specs.declared.refusal.Refusal.{Refusal}
+use Rattle.task.specs.Refused.{number_of}
+use Rattle.task.proofs.Refusals.{number_some}
 use Rattle.task.specs.declared.Head.{Head}
 use Rattle.task.specs.declared.Table.{Table}
 use Rattle.task.specs.declared.Table.TheVariants.{Formulas, Effects, Operators}
@@ -21,12 +26,11 @@ use Rattle.task.proofs.Bounded.{every_at}
 use Rattle.task.proofs.Held.{length_initial, length_originals, length_formulas, length_effects, length_operators}
 use Rattle.task.proofs.Passed.{passed, counts_tested, lengths_tested, initial_tested}
 use Rattle.task.specs.Inner.Tables.{words_at}
-use Rattle.task_writer.specs.declared.WriteAnswer.TheVariants.{Written, NotWritten}
 use Rattle.file_format.specs.Bytes.{word_bytes, head_defaults, head_fields, head_bytes, packed, bytes_for, file_of}
-use Rattle.task_writer.specs.Inner.Putting.{Put, bytes_of, rows_bytes, WriteIn}
-use Rattle.task_writer.specs.Writing.{wrote, file_outcome, write_outcome}
+use Rattle.task_writer.specs.Inner.Putting.{Put, bytes_of, rows_bytes, StateIn, WriteIn}
+use Rattle.task_writer.specs.Writing.{Written, NotWritten, write_answered, wrote, file_outcome, write_outcome}
 use Rattle.file_format.proofs.Initial.{packed_length}
-use Rattle.task_file.proofs.ReadWays.{zeros_of, drop_zeros}
+use Rattle.std.proofs.lemmas.List.{drop-replicate}
 use Rattle.file_format.proofs.Fields.{fields_length}
 use Rattle.task_writer.proofs.Puts.{put_then, put_same, put_size}
 use Rattle.task_writer.proofs.PutLoops.{rows_none_put, rows_more_put, row_bytes_length, words_bytes, words_more_put, word_length}
@@ -74,7 +78,7 @@ write_in l e =
       formulas = c.formulas;
       effects = c.effects;
       operators = c.operators;
-      state = record { fit = long.initial; bits = (initial_tested l).0 p.initial };
+      bits = (initial_tested l).0 p.initial;
       formula_maps =
           λ i h.
           let r = row_at l.formulas i in
@@ -86,6 +90,12 @@ write_in l e =
           effect_small l.head.variables l.head.formulas i r.kind r.a r.b
           (every_at l.head.effects (λ i. effect_kept l.head.variables l.head.formulas i (row_at l.effects i)) p.effects i h);
     }
+
+-- the state that they hold is one of bits
+pub state_in : (l : Lent) → WriteIn l → StateIn (take l.head.variables l.initial)
+state_in l w =
+    let long = length-take-le l.head.variables l.initial w.long.initial in
+    record { bits = λ v h. let below : v < l.head.variables = omega arith in rw (get_or-take l.head.variables l.initial v 0 below) (w.bits v below) }
 
 -- how far each part reaches
 pub rows_size : (table : Table) (words : List ℕ) (n : ℕ) → length (rows_bytes table words n) ≤ 9 * n
@@ -139,16 +149,22 @@ task_put l w h i t f e o =
 
 -- the three ways out of the call; z is the output after clearing, and what was put follows
 module _ (l : Lent) (out : List ℕ) where
-  pub not_checked : {z : List ℕ} {n : ℕ} → z ≡ replicate (length out) 0 → n ≡ refusal l → (n ≡ 0 → ⊥) → wrote (NotWritten n) z ≡ write_outcome l (length out)
+  pub not_checked :
+      {z : List ℕ} (r : Result ℕ Refusal) (e : Refusal)
+      → z ≡ replicate (length out) 0
+      → IsErrAnd r (λ x. x ≡ e)
+      → number_of e ≡ refusal l
+      → wrote (write_answered r) z ≡ write_outcome l (length out)
   unfolding write_outcome
-  not_checked {z} {n} c e h =
-      let t : eqb (refusal l) 0 ≡ false = ne_eqb (refusal l) 0 (λ q. h (e ∙ q)) in
-      rw t (λ j. wrote (NotWritten (e j)) (c j))
+  not_checked (Ok x) e c given is = absurd given
+  not_checked (Err x) e c given is =
+      let same : number_of x ≡ refusal l = ap number_of given ∙ is in
+      let t : eqb (refusal l) 0 ≡ false = ne_eqb (refusal l) 0 (λ q. number_some x (same ∙ q)) in
+      rw t (λ j. wrote (NotWritten (same j)) (c j))
 
-  module _ {z out' : List ℕ} {n end : ℕ} (clear : z ≡ replicate (length out) 0) (checked : n ≡ refusal l) (ok : n ≡ 0)
-      (put : Put (file_of (task_of l)) 0 end z out') where
+  module _ {z out' : List ℕ} {end : ℕ} (clear : z ≡ replicate (length out) 0) (ok : refusal l ≡ 0) (put : Put (file_of (task_of l)) 0 end z out') where
     passes : eqb (refusal l) 0 ≡ true
-    passes = eq-eqb (refusal l) 0 (sym checked ∙ ok)
+    passes = eq-eqb (refusal l) 0 ok
 
     z_size : length z ≡ length out
     z_size = ap length clear ∙ length-replicate (length out) 0
@@ -164,13 +180,15 @@ module _ (l : Lent) (out : List ℕ) where
         rw (passes, t) (ap (wrote (NotWritten 20)) (c ∙ ap (λ (k : ℕ). replicate k 0) size))
 
     pub fits : end ≤ length out' → wrote (Written end) out' ≡ write_outcome l (length out)
-    unfolding write_outcome file_outcome padded zeros_of
+    unfolding write_outcome file_outcome padded
     fits h =
         let file = file_of (task_of l) in
         let size : length out' ≡ length out = put_size put ∙ z_size in
         let t : leb (length file) (length out) ≡ true = le-leb (length file) (length out) (omega (arith, end_is)) in
         let whole : out' ≡ file ++ drop (0 + length file) z = put.wrote ∙ sets-eq file z 0 (omega (arith, end_is, z_size)) in
         let zeros : drop (0 + length file) z ≡ replicate (length out - length file) 0 =
-        ap (drop (0 + length file)) clear ∙ drop_zeros (length out) (0 + length file) ∙ ap (λ (k : ℕ). replicate (length out - k) 0) (zero-add (length file))
+        ap (drop (0 + length file)) clear
+        ∙ drop-replicate (0 + length file) (length out) 0
+        ∙ ap (λ (k : ℕ). replicate (length out - k) 0) (zero-add (length file))
         in
         rw (passes, t) (λ j. wrote (Written (end_is j)) ((whole ∙ ap (λ (x : List ℕ). file ++ x) zeros) j))

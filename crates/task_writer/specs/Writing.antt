@@ -1,12 +1,22 @@
 -- What the call that writes leaves: its answer and the output (01, "Where each number is given": the tables' own numbers, then 20; after a refusal the
 -- output is all 0, and past the file all is 0).
-use Rattle.std.specs.Prelude.{ℕ, cond, List, length, replicate, leb, eqb}
+use Rattle.std.specs.Prelude.{ℕ, cond, List, length, replicate, leb, eqb, Result, Ok, Err}
+use Rattle.task.specs.declared.refusal.Refusal.{Refusal}
+use Rattle.task.specs.Refused.{number_of}
 use Rattle.task.specs.Table.{Lent, task_of}
 use Rattle.task.specs.Check.{refusal}
-use Rattle.task_writer.specs.declared.WriteAnswer.{WriteAnswer}
-use Rattle.task_writer.specs.declared.WriteAnswer.TheVariants.{Written, NotWritten}
 use Rattle.file_format.specs.Bytes.{file_of}
 use Rattle.task.specs.Words.{padded}
+
+-- the file's length, or the number of the refusal
+pub data WriteAnswer : Type 0 where
+  Written : ℕ → WriteAnswer
+  NotWritten : ℕ → WriteAnswer
+
+-- the call's own answer, so told
+abbrev pub write_answered : Result ℕ Refusal → WriteAnswer
+write_answered (Ok length) = Written length
+write_answered (Err refusal) = NotWritten (number_of refusal)
 
 pub record WriteOutcome : Type 0 where
   pub answer : WriteAnswer

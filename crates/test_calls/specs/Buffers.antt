@@ -3,7 +3,7 @@ use Rattle.std.specs.Prelude.{ℕ, Bool, cond, List, [], ◌∷◌, length, eqb}
 use Rattle.task.specs.declared.Head.{Head}
 
 -- the words, where the buffer has just their number; else what stood there
-unfoldable pub told_words : (words before : List ℕ) → List ℕ
+unfoldable pub told_words : {A : Type 0} → (words before : List A) → List A
 told_words words before = cond (eqb (length before) (length words)) words before
 
 -- a flag as a word

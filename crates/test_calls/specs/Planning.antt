@@ -1,7 +1,6 @@
 -- What the exported call on the cheapest plan leaves, from what `planned` yields.
 use Rattle.std.specs.Prelude.{ℕ, ◌≡◌, List, [], ◌∷◌}
-use Rattle.cheapest_plan.specs.declared.CheapestOutcome.{CheapestOutcome}
-use Rattle.cheapest_plan.specs.Planned.{Planned}
+use Rattle.cheapest_plan.specs.Planned.{CheapestOutcome, Planned}
 use Rattle.test_calls.specs.Buffers.{told_words}
 
 -- steps, cost

@@ -1,12 +1,8 @@
 -- What the exported reading and writing leave, from what `read_outcome` and `write_outcome` yield.
 use Rattle.std.specs.Prelude.{ℕ, ◌+◌, ◌≡◌, List}
 use Rattle.task.specs.declared.Head.{Head}
-use Rattle.task_file.specs.declared.ReadAnswer.{ReadAnswer}
-use Rattle.task_file.specs.declared.ReadAnswer.TheVariants.{Read, Refused}
-use Rattle.task_writer.specs.declared.WriteAnswer.{WriteAnswer}
-use Rattle.task_writer.specs.declared.WriteAnswer.TheVariants.{Written, NotWritten}
-use Rattle.task_file.specs.Outcome.{ReadOutcome}
-use Rattle.task_writer.specs.Writing.{WriteOutcome}
+use Rattle.task_file.specs.Outcome.{ReadAnswer, Read, Refused, ReadOutcome}
+use Rattle.task_writer.specs.Writing.{WriteAnswer, Written, NotWritten, WriteOutcome}
 use Rattle.test_calls.specs.Buffers.{told_words, head_words, no_head}
 
 abbrev pub read_number : ReadAnswer → ℕ

@@ -1,10 +1,7 @@
 -- What the exported step and run leave, from what `stepped` and `ran` yield.
 use Rattle.std.specs.Prelude.{ℕ, ◌≡◌, List, [], ◌∷◌}
-use Rattle.plan.specs.Outcome.{Stepped, Ran}
-use Rattle.stepper.specs.declared.StepOutcome.{StepOutcome}
-use Rattle.plan.specs.declared.outcome.RunOutcome.{RunOutcome}
-use Rattle.plan.specs.declared.outcome.End.{End}
-use Rattle.plan.specs.declared.outcome.End.TheVariants.{Ended, Stopped, Refused}
+use Rattle.stepper.specs.Stepped.{StepOutcome}
+use Rattle.plan.specs.Outcome.{Stepped, Ran, RunOutcome, End, Ended, Stopped, Refused}
 use Rattle.test_calls.specs.Buffers.{told_words, flag_word}
 
 -- steps, cost, goal

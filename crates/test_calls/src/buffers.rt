@@ -1,70 +1,89 @@
-// Words that an exported call tells through a lent buffer.
-ghost use Rattle.std.specs.Prelude.{◌≡◌, [], ◌∷◌};
-ghost use Rattle.test_calls.specs.Buffers.{told_words, flag_word, head_words};
+// What an exported call is handed as numbers, and words that it tells through a lent buffer.
+ghost use Rattle.std.specs.Prelude.{◌≡◌};
+ghost use Rattle.task.specs.Lending.{lent_tables};
+ghost use Rattle.task.specs.Refused.{told};
+ghost use Rattle.task.specs.Table.{lent};
+ghost use Rattle.test_calls.specs.Buffers.{told_words, head_words};
 
-pub fn flag(b: bool) -> u64
-    ensures { result ≡ flag_word b }
+use task::Head;
+use task::refusal::Refusal;
+use task::tables::Tables;
+
+// The head of a refused call.
+pub const NO_HEAD: Head = Head {
+    variables: 0,
+    twins: 0,
+    formulas: 0,
+    effects: 0,
+    operators: 0,
+    goal: 0,
+};
+
+// Lent tables, with the head as six numbers.
+pub fn tables<'a>(
+    variables: u16,
+    twin_count: u16,
+    formula_count: u16,
+    effect_count: u16,
+    operator_count: u16,
+    goal: u16,
+    initial: &'a [u8],
+    twins: &'a [u16],
+    formulas: &'a [u16],
+    effects: &'a [u16],
+    operators: &'a [u16],
+) -> Tables<'a>
+    ensures { lent_tables result ≡ lent (record { variables = variables; twins = twin_count; formulas = formula_count; effects = effect_count; operators = operator_count; goal = goal }) initial.now twins.now formulas.now effects.now operators.now }
 {
-    if b { 1 } else { 0 }
+    Tables {
+        head: Head {
+            variables,
+            twins: twin_count,
+            formulas: formula_count,
+            effects: effect_count,
+            operators: operator_count,
+            goal,
+        },
+        initial,
+        twins,
+        formulas,
+        effects,
+        operators,
+    }
 }
 
-// Two words, if the buffer has just two.
-pub fn tell_two(buffer: &mut [u64], first: u64, second: u64)
-    ensures { buffer.new ≡ told_words (first ∷ second ∷ []) buffer.old }
+// The number of an answer: 0, or its refusal's.
+pub fn number<T: Drop>(answer: Result<T, Refusal>) -> u16
+    ensures { result ≡ told answer }
 {
-    if buffer.len() != 2 {
-        return;
+    match answer {
+        Ok(_) => 0,
+        Err(refusal) => refusal.number(),
     }
-    buffer[0] = first;
-    buffer[1] = second;
 }
 
-// Three words, if the buffer has just three.
-pub fn tell_three(buffer: &mut [u64], first: u64, second: u64, third: u64)
-    ensures { buffer.new ≡ told_words (first ∷ second ∷ third ∷ []) buffer.old }
+// The words, if the buffer has just as many.
+#[tactic(auto, unfolding(crate::specs::Buffers::told_words))]
+pub fn tell<T: Copy>(buffer: &mut [T], words: &[T])
+    ensures { buffer.new ≡ told_words words.now buffer.old }
 {
-    if buffer.len() != 3 {
-        return;
+    if buffer.len() == words.len() {
+        buffer.copy_from_slice(words);
     }
-    buffer[0] = first;
-    buffer[1] = second;
-    buffer[2] = third;
-}
-
-// Six words, if the buffer has just six.
-pub fn tell_six(
-    buffer: &mut [u64],
-    first: u64,
-    second: u64,
-    third: u64,
-    fourth: u64,
-    fifth: u64,
-    sixth: u64,
-)
-    ensures { buffer.new ≡ told_words (first ∷ second ∷ third ∷ fourth ∷ fifth ∷ sixth ∷ []) buffer.old }
-{
-    if buffer.len() != 6 {
-        return;
-    }
-    buffer[0] = first;
-    buffer[1] = second;
-    buffer[2] = third;
-    buffer[3] = fourth;
-    buffer[4] = fifth;
-    buffer[5] = sixth;
 }
 
 // A head's six words, V W F E O goal, if the buffer has just six.
-pub fn tell_head(buffer: &mut [u16], head: task::Head)
+#[tactic(auto, unfolding(crate::specs::Buffers::head_words))]
+pub fn tell_head(buffer: &mut [u16], head: Head)
     ensures { buffer.new ≡ told_words (head_words head) buffer.old }
 {
-    if buffer.len() != 6 {
-        return;
-    }
-    buffer[0] = head.variables;
-    buffer[1] = head.twins;
-    buffer[2] = head.formulas;
-    buffer[3] = head.effects;
-    buffer[4] = head.operators;
-    buffer[5] = head.goal;
+    let words = [
+        head.variables,
+        head.twins,
+        head.formulas,
+        head.effects,
+        head.operators,
+        head.goal,
+    ];
+    tell(buffer, &words);
 }

@@ -1,38 +1,10 @@
 // Compiling to positive normal form.
-ghost use Rattle.std.specs.Prelude.{◌≡◌};
 ghost use Rattle.task.specs.Table.{lent};
 ghost use Rattle.normal_form.specs.Compiled.{compiling};
 ghost use Rattle.compiler.specs.Left.{tables, room_of};
-ghost use Rattle.compiler.specs.Left.{answer_of};
-ghost use Rattle.test_calls.specs.Compiling.{compile_told, compile_head, CompileTells};
+ghost use Rattle.test_calls.specs.Compiling.{CompileTells};
 
-use compiler::CompileAnswer;
-use task::Head;
-
-fn compile_number(answer: CompileAnswer) -> u16
-    ensures { result ≡ compile_told (answer_of answer) }
-{
-    match answer {
-        CompileAnswer::Compiled(_) => 0,
-        CompileAnswer::Refused(number) => number,
-    }
-}
-
-fn compile_head(answer: CompileAnswer) -> Head
-    ensures { result ≡ compile_head (answer_of answer) }
-{
-    match answer {
-        CompileAnswer::Compiled(head) => head,
-        CompileAnswer::Refused(_) => Head {
-            variables: 0,
-            twins: 0,
-            formulas: 0,
-            effects: 0,
-            operators: 0,
-            goal: 0,
-        },
-    }
-}
+use crate::buffers;
 
 // `compiler::compile`, with the head as six numbers; the compiled task's head goes to a buffer of six words, all 0 after a refusal.
 #[unsafe(no_mangle)]
@@ -58,18 +30,10 @@ pub extern "C" fn test_compile(
 ) -> u16
     ensures { CompileTells (compiling (lent (record { variables = v; twins = w; formulas = f; effects = e; operators = o; goal = goal }) initial.now twins.now formulas.now effects.now operators.now) (room_of (tables values.old originals.old table.old out.old written.old scratch.old))) head.old result head.new (tables values.new originals.new table.new out.new written.new scratch.new) }
 {
-    let source = Head {
-        variables: v,
-        twins: w,
-        formulas: f,
-        effects: e,
-        operators: o,
-        goal,
-    };
-    let answer = compiler::compile(
-        source, initial, twins, formulas, effects, operators, values, originals, table, out,
-        written, scratch,
+    let source = buffers::tables(
+        v, w, f, e, o, goal, initial, twins, formulas, effects, operators,
     );
-    crate::buffers::tell_head(head, compile_head(answer));
-    compile_number(answer)
+    let answer = compiler::compile(&source, values, originals, table, out, written, scratch);
+    buffers::tell_head(head, answer.unwrap_or(buffers::NO_HEAD));
+    buffers::number(answer)
 }

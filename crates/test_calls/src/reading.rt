@@ -1,48 +1,11 @@
 // Reading and writing task files.
 ghost use Rattle.std.specs.Prelude.{◌≡◌, length};
 ghost use Rattle.task.specs.Table.{lent};
-ghost use Rattle.task_file.specs.Outcome.{lengths};
-ghost use Rattle.task_file.specs.Outcome.{read_outcome};
+ghost use Rattle.task_file.specs.Outcome.{lengths, read_outcome};
 ghost use Rattle.task_writer.specs.Writing.{write_outcome};
-ghost use Rattle.test_calls.specs.Reading.{read_number, read_head, write_told, ReadTells, WriteTells};
+ghost use Rattle.test_calls.specs.Reading.{ReadTells, WriteTells};
 
-use task::Head;
-use task_file::ReadAnswer;
-use task_writer::WriteAnswer;
-
-fn read_number(answer: ReadAnswer) -> u16
-    ensures { result ≡ read_number answer }
-{
-    match answer {
-        ReadAnswer::Read(_) => 0,
-        ReadAnswer::Refused(number) => number,
-    }
-}
-
-fn read_head(answer: ReadAnswer) -> Head
-    ensures { result ≡ read_head answer }
-{
-    match answer {
-        ReadAnswer::Read(head) => head,
-        ReadAnswer::Refused(_) => Head {
-            variables: 0,
-            twins: 0,
-            formulas: 0,
-            effects: 0,
-            operators: 0,
-            goal: 0,
-        },
-    }
-}
-
-fn write_number(answer: WriteAnswer) -> usize
-    ensures { result ≡ write_told answer }
-{
-    match answer {
-        WriteAnswer::Written(size) => size,
-        WriteAnswer::NotWritten(number) => 65536 + number as usize,
-    }
-}
+use crate::buffers;
 
 // `task_file::read`; the head goes to a buffer of six words, all 0 after a refusal.
 #[unsafe(no_mangle)]
@@ -58,8 +21,8 @@ pub extern "C" fn test_read(
     ensures { ReadTells (read_outcome (lengths (length initial.old) (length twins.old) (length formulas.old) (length effects.old) (length operators.old)) file.now) head.old result head.new initial.new twins.new formulas.new effects.new operators.new }
 {
     let answer = task_file::read::read(file, initial, twins, formulas, effects, operators);
-    crate::buffers::tell_head(head, read_head(answer));
-    read_number(answer)
+    buffers::tell_head(head, answer.unwrap_or(buffers::NO_HEAD));
+    buffers::number(answer)
 }
 
 // `task_writer::write`, with the head as six numbers: the file's length, or 65,536 and the number of the refusal.
@@ -80,14 +43,11 @@ pub extern "C" fn test_write(
 ) -> usize
     ensures { WriteTells (write_outcome (lent (record { variables = v; twins = w; formulas = f; effects = e; operators = o; goal = goal }) initial.now twins.now formulas.now effects.now operators.now) (length out.old)) result out.new }
 {
-    let head = Head {
-        variables: v,
-        twins: w,
-        formulas: f,
-        effects: e,
-        operators: o,
-        goal,
-    };
-    let answer = task_writer::write::write(head, initial, twins, formulas, effects, operators, out);
-    write_number(answer)
+    let tables = buffers::tables(
+        v, w, f, e, o, goal, initial, twins, formulas, effects, operators,
+    );
+    match task_writer::write::write(&tables, out) {
+        Ok(size) => size,
+        Err(refusal) => 65536 + usize::from(refusal.number()),
+    }
 }

@@ -1,61 +1,45 @@
 // Stepping and running.
 ghost use Rattle.std.specs.Prelude.{◌≡◌};
 ghost use Rattle.task.specs.Table.{lent};
-ghost use Rattle.plan.specs.Outcome.{stepped, ran};
-ghost use Rattle.test_calls.specs.Running.{refusal_of, stop_told, stop_step, ended_goal, StepTells, RunTells};
+ghost use Rattle.stepper.specs.Stepped.{step_answered};
+ghost use Rattle.plan.specs.Outcome.{stepped, ran, run_answered};
+ghost use Rattle.test_calls.specs.Running.{step_words, run_words, StepTells, RunTells};
 
-use plan::End;
+use crate::buffers;
+use plan::{End, RunOutcome, StepOutcome};
+use task::refusal::Refusal;
 
-pub fn wide(x: u32) -> u64
-    ensures { result ≡ x }
+// Steps, cost and goal; all 0 after a refusal.
+#[tactic(auto, unfolding(crate::specs::Running::step_words))]
+fn step_words(answer: Result<StepOutcome, Refusal>) -> [u64; 3]
+    ensures { result ≡ step_words (step_answered answer) }
 {
-    x as u64
-}
-
-fn wide_number(x: u16) -> u64
-    ensures { result ≡ x }
-{
-    x as u64
-}
-
-fn refusal_of(end: End) -> u16
-    ensures { result ≡ refusal_of end }
-{
-    match end {
-        End::Ended(_) => 0,
-        End::Stopped { number: _, step: _ } => 0,
-        End::Refused(number) => number,
+    match answer {
+        Ok(step) => [u64::from(step.steps), step.cost, u64::from(step.goal)],
+        Err(_) => [0; 3],
     }
 }
 
-fn stop_number(end: End) -> u64
-    ensures { result ≡ stop_told end }
+// Steps, cost and goal, a stop's number and step, and the goal of a run that ended; all 0 after a refusal.
+#[tactic(auto, unfolding(crate::specs::Running::run_words))]
+fn run_words(answer: Result<RunOutcome, Refusal>) -> [u64; 6]
+    ensures { result ≡ run_words (run_answered answer) }
 {
-    match end {
-        End::Ended(_) => 0,
-        End::Stopped { number, step: _ } => wide_number(number),
-        End::Refused(_) => 0,
-    }
-}
-
-fn stop_step(end: End) -> u64
-    ensures { result ≡ stop_step end }
-{
-    match end {
-        End::Ended(_) => 0,
-        End::Stopped { number: _, step } => wide(step),
-        End::Refused(_) => 0,
-    }
-}
-
-fn ended_goal(end: End) -> u64
-    ensures { result ≡ ended_goal end }
-{
-    match end {
-        End::Ended(goal) => crate::buffers::flag(goal),
-        End::Stopped { number: _, step: _ } => 0,
-        End::Refused(_) => 0,
-    }
+    let Ok(run) = answer else {
+        return [0; 6];
+    };
+    let (stop, step, ended) = match run.end {
+        End::Ended(goal) => (0, 0, goal),
+        End::Stopped { number, step } => (number.number(), step, false),
+    };
+    [
+        u64::from(run.steps),
+        run.cost,
+        u64::from(run.goal),
+        u64::from(stop),
+        u64::from(step),
+        u64::from(ended),
+    ]
 }
 
 // `plan::step`, with the head as six numbers; its steps, cost and goal go to a result of three words.
@@ -79,24 +63,12 @@ pub extern "C" fn test_step(
 ) -> u16
     ensures { StepTells (stepped (lent (record { variables = v; twins = w; formulas = f; effects = e; operators = o; goal = goal }) initial.now twins.now formulas.now effects.now operators.now) state.old number scratch.old) res.old result state.new scratch.new res.new }
 {
-    let head = task::Head {
-        variables: v,
-        twins: w,
-        formulas: f,
-        effects: e,
-        operators: o,
-        goal,
-    };
-    let outcome = plan::step(
-        head, initial, twins, formulas, effects, operators, state, number, scratch,
+    let tables = buffers::tables(
+        v, w, f, e, o, goal, initial, twins, formulas, effects, operators,
     );
-    crate::buffers::tell_three(
-        res,
-        wide(outcome.steps),
-        outcome.cost,
-        crate::buffers::flag(outcome.goal),
-    );
-    outcome.refusal
+    let answer = plan::step(&tables, state, number, scratch);
+    buffers::tell(res, &step_words(answer));
+    buffers::number(answer)
 }
 
 // `plan::run`, likewise; the result has six words. A run that 17 or 18 stops is not refused.
@@ -120,26 +92,10 @@ pub extern "C" fn test_run(
 ) -> u16
     ensures { RunTells (ran (lent (record { variables = v; twins = w; formulas = f; effects = e; operators = o; goal = goal }) initial.now twins.now formulas.now effects.now operators.now) state.old sequence.now scratch.old) res.old result state.new scratch.new res.new }
 {
-    let head = task::Head {
-        variables: v,
-        twins: w,
-        formulas: f,
-        effects: e,
-        operators: o,
-        goal,
-    };
-    let outcome = plan::run(
-        head, initial, twins, formulas, effects, operators, state, sequence, scratch,
+    let tables = buffers::tables(
+        v, w, f, e, o, goal, initial, twins, formulas, effects, operators,
     );
-    let end = outcome.end;
-    crate::buffers::tell_six(
-        res,
-        wide(outcome.steps),
-        outcome.cost,
-        crate::buffers::flag(outcome.goal),
-        stop_number(end),
-        stop_step(end),
-        ended_goal(end),
-    );
-    refusal_of(end)
+    let answer = plan::run(&tables, state, sequence, scratch);
+    buffers::tell(res, &run_words(answer));
+    buffers::number(answer)
 }

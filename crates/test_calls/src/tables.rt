@@ -3,6 +3,10 @@ ghost use Rattle.std.specs.Prelude.{◌≡◌, length, get_or};
 ghost use Rattle.task.specs.Table.{lent, row_part, operator_part};
 ghost use Rattle.task.specs.Check.{refusal};
 
+use crate::buffers;
+use task::check::check;
+use task::rows::{operator_row, row};
+
 // `task::check::check`, with the head as six numbers.
 #[unsafe(no_mangle)]
 pub extern "C" fn test_check(
@@ -20,15 +24,9 @@ pub extern "C" fn test_check(
 ) -> u16
     ensures { result ≡ refusal (lent (record { variables = v; twins = w; formulas = f; effects = e; operators = o; goal = goal }) initial.now twins.now formulas.now effects.now operators.now) }
 {
-    let head = task::Head {
-        variables: v,
-        twins: w,
-        formulas: f,
-        effects: e,
-        operators: o,
-        goal,
-    };
-    task::check::check(head, initial, twins, formulas, effects, operators)
+    buffers::number(check(&buffers::tables(
+        v, w, f, e, o, goal, initial, twins, formulas, effects, operators,
+    )))
 }
 
 // The length of the part of a table that a row is.
@@ -36,8 +34,7 @@ pub extern "C" fn test_check(
 pub extern "C" fn test_row_length(table: &[u16], number: usize) -> usize
     ensures { result ≡ length (row_part table.now number) }
 {
-    let part = task::rows::row(table, number);
-    part.len()
+    row(table, number).len()
 }
 
 // The word at a place of that part, 0 outside it.
@@ -45,8 +42,7 @@ pub extern "C" fn test_row_length(table: &[u16], number: usize) -> usize
 pub extern "C" fn test_row_word(table: &[u16], number: usize, at: usize) -> u16
     ensures { result ≡ get_or (row_part table.now number) at 0 }
 {
-    let part = task::rows::row(table, number);
-    if at < part.len() { part[at] } else { 0 }
+    row(table, number).get(at).copied().unwrap_or(0)
 }
 
 // The same of an operator's row.
@@ -54,14 +50,12 @@ pub extern "C" fn test_row_word(table: &[u16], number: usize, at: usize) -> u16
 pub extern "C" fn test_operator_row_length(table: &[u16], number: usize) -> usize
     ensures { result ≡ length (operator_part table.now number) }
 {
-    let part = task::rows::operator_row(table, number);
-    part.len()
+    operator_row(table, number).len()
 }
 
 #[unsafe(no_mangle)]
 pub extern "C" fn test_operator_row_word(table: &[u16], number: usize, at: usize) -> u16
     ensures { result ≡ get_or (operator_part table.now number) at 0 }
 {
-    let part = task::rows::operator_row(table, number);
-    if at < part.len() { part[at] } else { 0 }
+    operator_row(table, number).get(at).copied().unwrap_or(0)
 }

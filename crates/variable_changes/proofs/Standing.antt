@@ -1,8 +1,13 @@
 -- Steps from where building stands, put together. Assumes nothing.
 use Prim.Native.Nat.{ℕ, ◌<◌}
 use native.Mathlib.Omega.{arith}
-use mathlib.Core.Path.{◌≡◌, ap, ap₂, ◌∙◌}
+use mathlib.Core.Path.{◌≡◌, refl, ap, ap₂, ◌∙◌}
+use Rattle.std.specs.Prelude.{Result, Ok}
+use Rattle.formula_builder.specs.declared.NoRoom.{NoRoom}
+use Rattle.conditions.specs.declared.ConditionBuilder.{ConditionBuilder}
+use Rattle.conditions.proofs.Steps.{same_conditions_twice}
 use mathlib.Core.Bool.{Bool, true, false, true≢false}
+use mathlib.Core.Logic.{◌⊎◌, inl, inr}
 use mathlib.Core.List.{List}
 use lib.ListN.{length}
 use borrow.Author.Tests.{eq-eqb, ne_eqb}
@@ -14,16 +19,14 @@ use Rattle.normal_form.proofs.Growth.{steady_give, steady_bind, steady_join}
 use Rattle.normal_form.proofs.Steady.{steady_deletes, steady_condition}
 use Rattle.task.specs.Semantics.{Effect, sets, clears}
 use Rattle.formula_builder.specs.declared.Frame.{Frame}
-use Rattle.formula_builder.specs.declared.Size.{Size}
-use Rattle.formula_builder.specs.declared.Step.{Step}
-use Rattle.formula_builder.specs.Inner.Held.{Store, held, size_of, stepped, JoinReady, Builds}
+use Rattle.formula_builder.specs.Inner.Held.{Size, Step, Store, held, size_of, done_step, JoinReady, Builds}
 use Rattle.formula_builder.proofs.Steps.{builds_stands, within_before}
 use Rattle.images.specs.Inner.Images.{Memo, Images}
 use Rattle.images.proofs.Memos.{done_grows}
 use Rattle.conditions.specs.declared.Target.{Target}
-use Rattle.conditions.specs.Inner.Conditions.{effect_tree, EffectMemo, Noted, Asks, Conditions}
+use Rattle.conditions.specs.Inner.Conditions.{effect_tree, EffectMemo, Noted, Asks, Conditions, SameConditions, Later, Conditioned}
 use Rattle.conditions.proofs.Memos.{effect_memo_grows, conditions_as, conditions_leaf, conditions_bind, conditions_stop}
-use Rattle.variable_changes.specs.Inner.Stands.{Stands, StandsAt, Deletes, Leaves, Reaches, Makes}
+use Rattle.variable_changes.specs.Inner.Stands.{Stands, StandsAt, Leaves, Reaches, Makes, StandsThere, StandsBy, deletes_by}
 
 -- what a condition asks
 pub asks_condition :
@@ -48,7 +51,7 @@ given_row :
     {frame : Frame} {formulas effects notes : List ℕ} {at : Size} {s : Store} {scratch : List ℕ} {e : ℕ} (x : ℕ)
     → StandsAt frame formulas effects notes at s scratch e
     → x < at.rows
-    → Conditions (give x) frame formulas effects notes at s s scratch (stepped at.rows at.twins x)
+    → Conditions (give x) frame formulas effects notes at s s scratch (done_step at x)
 given_row x a h =
     conditions_leaf (steady_give x) a.noted a.stands.memo a.stands.effect_memo (builds_stands x a.stands.ready h)
 
@@ -154,6 +157,13 @@ module _ {A B : Type 0} {m : Build A} {frame : Frame} {formulas effects : List �
         value = λ e. absurd (true≢false e);
       }
 
+-- without room any value does
+pub makes_any :
+    {A : Type 0} {m : Build A} {frame : Frame} {formulas effects : List ℕ} {at : Size} {before after : Store} {s2 : List ℕ} {next : Size} {a b : A}
+    → Makes m frame formulas effects at before after s2 true next a
+    → Makes m frame formulas effects at before after s2 true next b
+makes_any x = record { reaches = x.reaches; value = λ e. absurd (true≢false e) }
+
 -- only the value changes
 makes_map :
     {A B : Type 0} {m : Build A} {frame : Frame} {formulas effects : List ℕ} {at : Size} {before after : Store} {s2 : List ℕ} {full : Bool} {next : Size} {a : A}
@@ -187,27 +197,21 @@ leaves_full = record { noted = λ q. absurd (true≢false q) }
 
 -- D, freed of conflict with A.
 module _ {notes : List ℕ} (frame : Frame) (formulas effects : List ℕ) (at : Size) (before : Store) (scratch : List ℕ) (e v a d : ℕ)
-    (s : Deletes frame formulas effects notes at before scratch e v d) where
+    (s : StandsAt frame formulas effects notes at before scratch e) (row : d < at.rows) where
   tree : Effect
   tree = effect_tree frame formulas effects e
 
   stays :
       deletes_of frame.variables tree v a d ≡ give d
-      → Conditions (deletes_of frame.variables tree v a d) frame formulas effects notes at before before scratch (stepped at.rows at.twins d)
-  stays q = conditions_as q (given_row d s.stands s.row)
+      → Conditions (deletes_of frame.variables tree v a d) frame formulas effects notes at before before scratch (done_step at d)
+  stays q = conditions_as q (given_row d s row)
 
-  pub never_set :
-      a ≡ 0
-      → Conditions (deletes_of frame.variables (effect_tree frame formulas effects e) v a d) frame formulas effects notes at before before scratch (stepped at.rows at.twins d)
+  pub conflict_none :
+      (a ≡ 0) ⊎ ((a ≡ 0 → ⊥) × (d ≡ 0))
+      → Conditions (deletes_of frame.variables (effect_tree frame formulas effects e) v a d) frame formulas effects notes at before before scratch (done_step at d)
   unfolding deletes_of tree
-  never_set h = stays (rw (eq-eqb a 0 h))
-
-  pub never_cleared :
-      (a ≡ 0 → ⊥)
-      → d ≡ 0
-      → Conditions (deletes_of frame.variables (effect_tree frame formulas effects e) v a d) frame formulas effects notes at before before scratch (stepped at.rows at.twins d)
-  unfolding deletes_of tree
-  never_cleared g h = stays (rw (ne_eqb a 0 g, eq-eqb d 0 h))
+  conflict_none (inl h) = stays (rw (eq-eqb a 0 h))
+  conflict_none (inr (g, h)) = stays (rw (ne_eqb a 0 g, eq-eqb d 0 h))
 
   module _ (g : a ≡ 0 → ⊥) (h : d ≡ 0 → ⊥) {notes' : List ℕ} {after : Store} {s2 : List ℕ} {n : Step}
       (x : Conditions (condition frame.variables negated (sets v) (effect_tree frame formulas effects e)) frame formulas effects notes' at before after s2 n)
@@ -224,15 +228,10 @@ module _ {notes : List ℕ} (frame : Frame) (formulas effects : List ℕ) (at : 
       unfolding tree
       negated-full q = conditions_as freed (conditions_stop (λ c. join plain d c) (λ c. steady_join plain d c) x q)
 
-      pub negated-join-asks : n.full ≡ false → JoinReady frame.rows n.rows after.table d n.row
+      pub negated-join-asks : n.full ≡ false → JoinReady frame (size_of n) after d n.row
       negated-join-asks q =
           let k = x.builds.done q in
-          record {
-            rows = k.ready.rows;
-            two = k.ready.two;
-            left = omega (arith, k.grew, s.row);
-            right = k.below;
-          }
+          record { ready = k.ready; left = omega (arith, k.grew, row); right = k.below }
 
       pub negated-joined :
           {last : Store} {z : Step}
@@ -291,3 +290,28 @@ module _ (n v : ℕ) (effect : Effect) where
           makes_bind after_set (makes_row x) q
           (makes_bind (last_of a.row) (makes_row y) g
           (makes_map {B = Changes} (λ k. record { variable = v; adds = a.row; deletes = k }) (makes_row z)))
+
+-- Where a builder goes on from c, which stands where it came to from b.
+pub stands_here : {b c : ConditionBuilder} {e : ℕ} → SameConditions b c → StandsThere b c e → StandsBy c e
+stands_here s a = rw (s.images.builder.frame, s.images.formulas, s.effects) a
+
+-- what is freed of conflict there
+pub freed_here :
+    {b c d : ConditionBuilder} (e v x y : ℕ) {r : Result ℕ NoRoom}
+    → SameConditions b c
+    → Conditioned (deletes_by c e v x y) c d r
+    → Later (deletes_by b e v x y) b c d r
+freed_here e v a k s x =
+    record {
+      conditions = rw (← s.images.builder.frame, ← s.images.formulas, ← s.effects) x.conditions;
+      same = same_conditions_twice s x.same;
+    }
+
+-- where it stands after a step
+pub stands_later :
+    {m : Build ℕ} {b c d : ConditionBuilder} {x e : ℕ}
+    → StandsThere b c e
+    → Later m b c d (Ok x)
+    → length d.images.scratch.now ≡ length c.images.scratch.now
+    → StandsThere b d e
+stands_later a x long = stands_at_next a x.conditions refl long

@@ -6,10 +6,9 @@ mod variable;
 
 pub use variable::change_of;
 
-// The rows under which a variable is set and cleared, which in corresponding states never both hold; or that there was no room.
-#[derive(Clone, Copy)]
+// The rows under which a variable is set and cleared, which in corresponding states never both hold.
+#[derive(Clone, Copy, Debug, PartialEq, Eq)]
 pub struct Change {
     pub adds: u16,
     pub deletes: u16,
-    pub full: bool,
 }

@@ -1,5 +1,5 @@
 -- Writing the rules of the operators from what was recorded: what it asks, and what it leaves.
-use Rattle.std.specs.Prelude.{ℕ, zero, suc, ◌+◌, ◌-◌, ◌*◌, ◌≤◌, ◌<◌, ◌≡◌, true, false, List, length, get_or, replicate}
+use Rattle.std.specs.Prelude.{ℕ, zero, suc, ◌+◌, ◌-◌, ◌*◌, ◌≤◌, ◌<◌, ◌≡◌, List, length, get_or, replicate, Result, MatchResult}
 use Rattle.task.specs.Bounded.{upto}
 use Rattle.task.specs.Table.{Row, row_at, Operator, operator_width, operator_at}
 use Rattle.task.specs.Words.{words_of, operator_words, padded}
@@ -61,19 +61,25 @@ pub record Holding (w : Assembled) (rows count : ℕ) (effects operators : List 
   pub effect_words : effects ≡ padded (length effects) (words_of w.effects)
   pub held_operators : operators ≡ padded (length operators) (operator_words w.operators)
 
--- Operator o is written behind those before it, or its rules have no room.
-pub record WroteOperator (b : Built) (n : ℕ) (twins : List ℕ) (room rows o : ℕ) (r : Chain) (out out' operators operators' : List ℕ) : Type 0 where
+-- Operator o is written behind those before it.
+pub record WroteRow (b : Built) (n : ℕ) (twins : List ℕ) (rows o : ℕ) (out out' operators operators' : List ℕ) (r : ℕ) : Type 0 where
   pub done :
       (w : Assembled)
       → Holding w rows o out operators
-      → r.full ≡ false
-      → Holding (assemble_operator n twins w b) r.rows (o + 1) out' operators'
+      → Holding (assemble_operator n twins w b) r (o + 1) out' operators'
+
+-- Its rules have no room.
+pub record OverfullRow (b : Built) (n : ℕ) (twins : List ℕ) (room rows o : ℕ) (out operators : List ℕ) : Type 0 where
   pub over :
       (w : Assembled)
       → Holding w rows o out operators
-      → r.full ≡ true
       → length (assemble_operator n twins w b).effects ≤ room
       → ⊥
+
+abbrev pub WritesRow : {E : Type 0} → Built → ℕ → List ℕ → (room rows o : ℕ) → (out out' operators operators' : List ℕ) → Result ℕ E → Type 0
+WritesRow b n twins room rows o out out' operators operators' r =
+    MatchResult r (λ stand. WroteRow b n twins rows o out out' operators operators' stand)
+    (λ _. OverfullRow b n twins room rows o out operators)
 
 pub record Assembles (frame : Frame) (operators records : List ℕ) (count : ℕ) (out written : List ℕ) : Type 0 where
   pub words : operator_width * count ≤ length operators
@@ -93,9 +99,12 @@ pub record Twinned (frame : Frame) (originals : List ℕ) : Type 0 where
   pub twins : frame.twins ≤ length originals
   pub below : (k : ℕ) → k < frame.twins → get_or originals k 0 < frame.variables
 
--- All operators are written, or their rules have no room. Then it is left open what stands in both tables and in the answer's counts, as in `Writes`.
-pub record AssembledAll (w : Assembled) (room count : ℕ) (r : Chain) (out operators : List ℕ) : Type 0 where
-  pub done : r.full ≡ false → Holding w r.rows count out operators
-  pub over : r.full ≡ true → length w.effects ≤ room → ⊥
-  pub within : r.full ≡ false → r.rows ≤ room
-  pub nothing_stands : r.full ≡ false → r.stands ≡ 0
+-- All operators are written, with so many effect rows.
+pub record Written (w : Assembled) (room count : ℕ) (out operators : List ℕ) (rows : ℕ) : Type 0 where
+  pub done : Holding w rows count out operators
+  pub within : rows ≤ room
+
+-- All operators are written, or their rules have no room. Then it is left open what stands in both tables, as in `Writes`.
+abbrev pub AssembledAll : {E : Type 0} → Assembled → (room count : ℕ) → (out operators : List ℕ) → Result ℕ E → Type 0
+AssembledAll w room count out operators r =
+    MatchResult r (λ rows. Written w room count out operators rows) (λ _. length w.effects ≤ room → ⊥)

@@ -1,18 +1,27 @@
 -- Building in parts: what each part asks, and what stands behind it.
-use Rattle.std.specs.Prelude.{ℕ, zero, suc, ◌+◌, ◌*◌, ◌≤◌, ◌<◌, ◌≡◌, true, false, List, length, get_or}
+use Rattle.std.specs.Prelude.{ℕ, zero, suc, ◌+◌, ◌*◌, ◌≤◌, ◌<◌, ◌≡◌, Bool, true, false, List, length, get_or, Result, Ok, Err}
 use Rattle.task.specs.Table.{row_at, operator_width, operator_at}
 use Rattle.normal_form.specs.Builder.{St, Build, bind, start, plain}
 use Rattle.normal_form.specs.Operators.{Changes}
 use Rattle.formula_builder.specs.declared.Frame.{Frame}
-use Rattle.formula_builder.specs.declared.Size.{Size}
-use Rattle.formula_builder.specs.declared.Step.{Step}
-use Rattle.formula_builder.specs.Inner.Held.{Store, store, held, size_of, RowsReady, TwinsNamed, Within}
-use Rattle.images.specs.Inner.Images.{image_at, Source, Asks, Images}
+use Rattle.formula_builder.specs.declared.NoRoom.{NoRoom}
+use Rattle.formula_builder.specs.declared.Builder.{Builder}
+use Rattle.formula_builder.specs.Inner.Held.{Size, Step, Store, store, held, size_of, store_in, RowsReady, TwinsNamed, Within}
+use Rattle.images.specs.Inner.Images.{image_at, Source}
 use Rattle.conditions.specs.Inner.Conditions.{EffectSource}
 use Rattle.variable_changes.specs.Inner.Stands.{Stands, Leaves}
 use Rattle.change_records.specs.Inner.Recorded.{acting, changes_from}
 use Rattle.operators.specs.Inner.Operator.{operator_here, operators_built}
-use Rattle.building.specs.declared.Progress.{Progress}
+use Rattle.conditions.specs.declared.ConditionBuilder.{ConditionBuilder}
+use Rattle.building.specs.declared.Progress.{Progress as Answer}
+
+-- What stands between two parts: so many rows and twins, so many operators taken and changes recorded; or that there was no room.
+pub record Progress : Type 0 where
+  pub rows : ℕ
+  pub twins : ℕ
+  pub operators : ℕ
+  pub records : ℕ
+  pub full : Bool
 
 abbrev pub size_at : Progress → Size
 size_at p = record { rows = p.rows; twins = p.twins }
@@ -20,6 +29,14 @@ size_at p = record { rows = p.rows; twins = p.twins }
 -- the answer without room, so many operators taken
 abbrev pub stopped : ℕ → Progress
 stopped n = record { rows = 0; twins = 0; operators = n; records = 0; full = true }
+
+-- the progress at a builder, and after a part that left one and answered so, with so many operators taken if there was no room
+abbrev pub progress_at : Builder → Answer → Progress
+progress_at b x = record { rows = b.rows; twins = b.twins; operators = x.operators; records = x.records; full = false }
+
+abbrev pub progress_by : Builder → ℕ → Result Answer NoRoom → Progress
+progress_by b n (Ok x) = progress_at b x
+progress_by b n (Err e) = stopped n
 
 -- all words are 0
 abbrev pub Zeros : List ℕ → Type 0
@@ -126,15 +143,6 @@ unfoldable pub whole_built : Frame → List ℕ → List ℕ → List ℕ → �
 whole_built frame formulas effects operators count goal =
     bind (operators_built frame formulas effects operators count) (λ _. image_at frame formulas plain goal)
 
--- Unless there is no room, the goal's image may be built.
-pub record TakesGoal (frame : Frame) (formulas : List ℕ) (goal : ℕ) (s : Store) (scratch : List ℕ) (p : Progress) : Type 0 where
-  pub asks : p.full ≡ false → Asks frame formulas (size_at p) s scratch goal
-
--- It is built, as `Images` says; without room nothing is, and the answer says so.
-pub record TookGoal (frame : Frame) (formulas : List ℕ) (goal : ℕ) (before after : Store) (scratch scratch' : List ℕ) (p : Progress) (r : Step) : Type 0 where
-  pub done : p.full ≡ false → Images (image_at frame formulas plain goal) frame formulas (size_at p) before after scratch scratch' r
-  pub over : p.full ≡ true → r ≡ record { rows = 0; twins = 0; row = 0; full = true }
-
 -- All of it stands, the goal being the last row that was built or found, and each operator is recorded.
 pub record Whole (frame : Frame) (formulas effects operators : List ℕ) (count goal : ℕ) (s : Store) (scratch records : List ℕ) (r : Step) : Type 0 where
   pub value : (whole_built frame formulas effects operators count goal start).value ≡ r.row
@@ -149,3 +157,14 @@ pub record FromStart (frame : Frame) (formulas effects operators : List ℕ) (co
       → Within frame (whole_built frame formulas effects operators count goal start).st
       → many frame formulas effects operators count ≤ 2048
       → ⊥
+
+-- what taking an operator asks of a builder of conditions, and what it leaves
+abbrev pub TakesBy : ConditionBuilder → (operators records : List ℕ) → Answer → Type 0
+TakesBy b operators records x =
+    Takes b.images.builder.frame b.images.formulas.now b.effects.now b.notes.now operators (store_in b.images.builder)
+    b.images.scratch.now records (progress_at b.images.builder x)
+
+abbrev pub TookBy : (b c : ConditionBuilder) → (operators records : List ℕ) → Answer → Progress → Type 0
+TookBy b c operators records x r =
+    Took b.images.builder.frame b.images.formulas.now b.effects.now operators (store_in c.images.builder) c.images.scratch.now records
+    (progress_at b.images.builder x) r

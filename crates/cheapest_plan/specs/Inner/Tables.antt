@@ -1,5 +1,5 @@
 -- What the words of a search say of each state, and what the functions on them ask and leave. Only the contracts of inner functions cite this file.
-use Rattle.std.specs.Prelude.{ℕ, ◌+◌, ◌*◌, ◌^◌, ◌≤◌, ◌<◌, ◌≡◌, Bool, true, false, List, [], ◌∷◌, ◌++◌, eqb, length, get_or}
+use Rattle.std.specs.Prelude.{ℕ, ◌+◌, ◌*◌, ◌^◌, ◌≤◌, ◌<◌, ◌≡◌, Bool, true, false, Option, Some, None, List, [], ◌∷◌, ◌++◌, length, get_or}
 use Rattle.task.specs.Table.{Task}
 use Rattle.task.specs.Rules.{Checked}
 use Rattle.task.specs.Run.{applicable, charge}
@@ -89,20 +89,20 @@ pub record Stepping (t : Task) (n : ℕ) (words : List ℕ) (s : List ℕ) (k : 
   -- a list that goes on from p ends with an operator that was stepped
   pub fresh : (x o e : ℕ) → x < n → status (state_of (length t.initial) x) ≡ queued (p ++ (o ∷ [])) e → o < k
 
--- What is kept of the comparisons of list p with those of states that were taken, for each of these: 0 if there was none, 2 if p comes first by its
+-- What is kept of the comparisons of list p with those of states that were taken, for each of these where there was one: whether p comes first by its
 -- numbers; of the state of p itself that it does not.
-pub record Noted (v n : ℕ) (status : List ℕ → Status) (p notes : List ℕ) : Type 0 where
+pub record Noted (v n : ℕ) (status : List ℕ → Status) (p : List ℕ) (notes : List (Option Bool)) : Type 0 where
   pub room : n ≤ length notes
   pub told :
-      (b : ℕ) (q : List ℕ) (d : ℕ)
+      (b : ℕ) (q : List ℕ) (d : ℕ) (r : Bool)
       → b < n
-      → (get_or notes b 0 ≡ 0 → ⊥)
+      → get_or notes b None ≡ Some r
       → status (state_of v b) ≡ taken q d
       → length p ≡ length q
-      → Verdict p q (eqb (get_or notes b 0) 2)
+      → Verdict p q r
 
 -- Two states that were taken, of lists of one length, and what was kept of earlier comparisons of the first.
-pub record Pairs (n : ℕ) (words : List ℕ) (a b : ℕ) (notes : List ℕ) : Type 0 where
+pub record Pairs (n : ℕ) (words : List ℕ) (a b : ℕ) (notes : List (Option Bool)) : Type 0 where
   pub v : ℕ
   pub status : List ℕ → Status
   pub holds : Holds v n status words
@@ -124,12 +124,12 @@ pub record Pairs (n : ℕ) (words : List ℕ) (a b : ℕ) (notes : List ℕ) : T
   pub alike : length p ≡ length q
   pub noted : Noted v n status p notes
 
-pub record Notes (n : ℕ) (words : List ℕ) (a b : ℕ) (before after : List ℕ) (r : Bool) : Type 0 where
+pub record Notes (n : ℕ) (words : List ℕ) (a b : ℕ) (before after : List (Option Bool)) (r : Bool) : Type 0 where
   pub told : (h : Pairs n words a b before) → Verdict h.p h.q r
   pub noted : (h : Pairs n words a b before) → Noted h.v n h.status h.p after
 
 -- Operator k is applicable in the state of code `from`, and leads from there to the state of code `to`; cost counts one more.
-pub record Relaxable (n : ℕ) (words : List ℕ) (to cost steps step : ℕ) (notes : List ℕ) : Type 0 where
+pub record Relaxable (n : ℕ) (words : List ℕ) (to cost steps step : ℕ) (notes : List (Option Bool)) : Type 0 where
   pub t : Task
   pub ground : Ground t n
   pub from : ℕ
@@ -148,7 +148,7 @@ pub record Relaxable (n : ℕ) (words : List ℕ) (to cost steps step : ℕ) (no
   pub last : step ≡ 256 * (from + 1) + k
 
 -- the state that the operator is stepped from, the one that it leads to, and the new list and its cost
-module _ {n : ℕ} {words : List ℕ} {to cost steps step : ℕ} {notes : List ℕ} (h : Relaxable n words to cost steps step notes) where
+module _ {n : ℕ} {words : List ℕ} {to cost steps step : ℕ} {notes : List (Option Bool)} (h : Relaxable n words to cost steps step notes) where
   abbrev pub left_state : List ℕ
   left_state = state_of (length h.t.initial) h.from
 
@@ -170,7 +170,7 @@ module _ {n : ℕ} {words : List ℕ} {to cost steps step : ℕ} {notes : List �
         → queue_cost cost * 4294967296 + steps ≤ key words n to
         → Judged false
 
-pub record Judges (n : ℕ) (words : List ℕ) (to cost steps step : ℕ) (notes after : List ℕ) (r : Bool) : Type 0 where
+pub record Judges (n : ℕ) (words : List ℕ) (to cost steps step : ℕ) (notes after : List (Option Bool)) (r : Bool) : Type 0 where
   pub told : (h : Relaxable n words to cost steps step notes) → Judged h r
   pub noted : (h : Relaxable n words to cost steps step notes) → Noted (length h.t.initial) n h.stepping.status h.p after
 
@@ -199,11 +199,11 @@ pub record Zeros (n : ℕ) (before after : List ℕ) : Type 0 where
   pub stay : (s : ℕ) → s < n → get_or before s 0 ≡ 0 → get_or after s 0 ≡ 0
 
 -- what is left: one operator more was stepped
-pub record Noting (t : Task) (n : ℕ) (words notes s : List ℕ) (k : ℕ) (p : List ℕ) (c : ℕ) : Type 0 where
+pub record Noting (t : Task) (n : ℕ) (words : List ℕ) (notes : List (Option Bool)) (s : List ℕ) (k : ℕ) (p : List ℕ) (c : ℕ) : Type 0 where
   pub stepping : Stepping t n words s k p c
   pub noted : Noted (length t.initial) n stepping.status p notes
 
-pub record Relaxes (n : ℕ) (to cost steps step : ℕ) (notes before after r : List ℕ) : Type 0 where
+pub record Relaxes (n : ℕ) (to cost steps step : ℕ) (notes : List (Option Bool)) (before after : List ℕ) (r : List (Option Bool)) : Type 0 where
   pub zeros : Zeros n before after
   pub told :
       (h : Relaxable n before to cost steps step notes)

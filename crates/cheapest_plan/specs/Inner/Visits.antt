@@ -1,9 +1,8 @@
 -- What the functions of the search ask and leave: states are taken from the queue, the operators are stepped from each, and the best end is looked for.
 -- Only the contracts of inner functions cite this file. What a function leaves is said of every task that its tables and words hold.
-use Rattle.std.specs.Prelude.{ℕ, ◌+◌, ◌*◌, ◌≤◌, ◌<◌, ◌≡◌, Bool, true, false, List, length, get_or}
-use Rattle.task.specs.declared.Head.{Head}
+use Rattle.std.specs.Prelude.{ℕ, ◌+◌, ◌*◌, ◌≤◌, ◌<◌, ◌≡◌, Bool, true, false, Option, Some, None, List, length, get_or}
 use Rattle.task.specs.Bounded.{upto}
-use Rattle.task.specs.Table.{Task, row_at, operator_at, operator_width}
+use Rattle.task.specs.Table.{Lent, Task, row_at, operator_at, operator_width}
 use Rattle.task.specs.Semantics.{holds}
 use Rattle.task.specs.Tree.{formula_of}
 use Rattle.task.specs.Run.{goal_holds, operator_of, applicable}
@@ -12,6 +11,7 @@ use Rattle.task.specs.Inner.Values.{bit, Values}
 use Rattle.operator_step.specs.Inner.Steps.{TablesReady}
 use Rattle.state_codes.specs.Inner.Masks.{next_code}
 use Rattle.state_queue.specs.Inner.Queue.{winner, Roomy, Queue, queued as is_queued}
+use Rattle.cheapest_plan.specs.declared.expand.Origin.{Origin}
 use Rattle.cheapest_plan.specs.Cheapest.{no_plan, plan_of, cheapest}
 use Rattle.cheapest_plan.specs.Order.{FirstByNumbers}
 use Rattle.cheapest_plan.specs.Inner.Leads.{next}
@@ -20,14 +20,14 @@ use Rattle.cheapest_plan.specs.Inner.Search.{NoLater, Status, queued, Searching,
 use Rattle.cheapest_plan.specs.Inner.Tables.{Ends, Holds, Ground, Stepping, Noting, Zeros}
 
 -- The tables hold the task.
-pub record TaskIn (t : Task) (h : Head) (f e o : List ℕ) : Type 0 where
-  pub variables : length t.initial ≡ h.variables
-  pub formulas : t.formulas ≡ upto h.formulas (row_at f)
-  pub effects : t.effects ≡ upto h.effects (row_at e)
-  pub operators : t.operators ≡ upto h.operators (operator_at o)
-  pub goal : t.goal ≡ h.goal
-  pub ready : TablesReady h f e o
-  pub few : h.operators ≤ 256
+pub record TaskIn (t : Task) (l : Lent) : Type 0 where
+  pub variables : length t.initial ≡ l.head.variables
+  pub formulas : t.formulas ≡ upto l.head.formulas (row_at l.formulas)
+  pub effects : t.effects ≡ upto l.head.effects (row_at l.effects)
+  pub operators : t.operators ≡ upto l.head.operators (operator_at l.operators)
+  pub goal : t.goal ≡ l.head.goal
+  pub ready : TablesReady l
+  pub few : l.head.operators ≤ 256
 
 -- What is asked where operators are stepped from the state of code `state`, which was taken with list p: whether each is applicable there, and where it
 -- leads.
@@ -61,28 +61,32 @@ module _ {n : ℕ} {operators : List ℕ} {count state cost steps : ℕ} {values
   abbrev pub SteppedTo : List ℕ → ℕ → Type 0
   SteppedTo words k = Stepping h.t n words (state_of (length h.t.initial) state) k h.p h.c
 
-  abbrev pub NotedTo : List ℕ → List ℕ → ℕ → Type 0
+  abbrev pub NotedTo : List ℕ → List (Option Bool) → ℕ → Type 0
   NotedTo words notes k = Noting h.t n words notes (state_of (length h.t.initial) state) k h.p h.c
 
-pub record Steppable (n : ℕ) (operators : List ℕ) (count state cost steps : ℕ) (values masks words notes : List ℕ) (k : ℕ) : Type 0 where
+-- the stage that the code has as one value
+abbrev pub StageOf : ℕ → Origin → Type 0
+StageOf n from = Stage n from.operators.now from.count from.state from.cost from.steps from.values.now from.masks.now
+
+pub record Steppable (n : ℕ) (from : Origin) (words : List ℕ) (notes : List (Option Bool)) (k : ℕ) : Type 0 where
   pub roomy : Roomy n words
-  pub stage : Stage n operators count state cost steps values masks
+  pub stage : StageOf n from
   pub stepping : NotedTo stage words notes k
 
 -- one operator more
-pub record StepsOn (n : ℕ) (operators : List ℕ) (count state cost steps : ℕ) (values masks notes : List ℕ) (k : ℕ) (before after r : List ℕ) : Type 0 where
+pub record StepsOn (n : ℕ) (from : Origin) (notes : List (Option Bool)) (k : ℕ) (before after : List ℕ) (r : List (Option Bool)) : Type 0 where
   pub zeros : Zeros n before after
-  pub told : (h : Stage n operators count state cost steps values masks) → NotedTo h before notes k → NotedTo h after r (k + 1)
+  pub told : (h : StageOf n from) → NotedTo h before notes k → NotedTo h after r (k + 1)
 
 -- and all of them
-pub record Expandable (n : ℕ) (operators : List ℕ) (count state cost steps : ℕ) (values masks words : List ℕ) : Type 0 where
+pub record Expandable (n : ℕ) (from : Origin) (words : List ℕ) : Type 0 where
   pub roomy : Roomy n words
-  pub stage : Stage n operators count state cost steps values masks
+  pub stage : StageOf n from
   pub stepping : SteppedTo stage words 0
 
-pub record Expands (n : ℕ) (operators : List ℕ) (count state cost steps : ℕ) (values masks : List ℕ) (before after : List ℕ) : Type 0 where
+pub record Expands (n : ℕ) (from : Origin) (before after : List ℕ) : Type 0 where
   pub zeros : Zeros n before after
-  pub told : (h : Stage n operators count state cost steps values masks) → SteppedTo h before 0 → SteppedTo h after count
+  pub told : (h : StageOf n from) → SteppedTo h before 0 → SteppedTo h after from.count
 
 -- What is known where a state is taken next: all operators have been stepped from all states that were taken.
 pub record Known (t : Task) (n : ℕ) (words : List ℕ) : Type 0 where
@@ -106,17 +110,17 @@ pub record Emptied (n : ℕ) (words : List ℕ) : Type 0 where
   pub lasts : (s : ℕ) → s < n → get_or words (2 * n + s) 0 ≡ 0
 
 -- the test of the goal in the state of a code: what it asks, what it tells, and the values of all formulas
-pub record GoalReady (h : Head) (f state scratch : List ℕ) : Type 0 where
-  pub few : h.variables ≤ 10
-  pub size : length state ≡ h.variables
-  pub there : 3 * h.formulas ≤ length f
-  pub rule : (i : ℕ) → i < h.formulas → FormulaKept h.variables i (row_at f i)
-  pub goal : h.goal < h.formulas
-  pub room : h.formulas ≤ length scratch
+pub record GoalReady (l : Lent) (state scratch : List ℕ) : Type 0 where
+  pub few : l.head.variables ≤ 10
+  pub size : length state ≡ l.head.variables
+  pub there : 3 * l.head.formulas ≤ length l.formulas
+  pub rule : (i : ℕ) → i < l.head.formulas → FormulaKept l.head.variables i (row_at l.formulas i)
+  pub goal : l.head.goal < l.head.formulas
+  pub room : l.head.formulas ≤ length scratch
 
-pub record GoalTold (h : Head) (f : List ℕ) (s : ℕ) (scratch : List ℕ) (r : Bool) : Type 0 where
-  pub told : r ≡ holds (state_of h.variables s) (formula_of (upto h.formulas (row_at f)) h.goal)
-  pub values : Values (state_of h.variables s) (upto h.formulas (row_at f)) h.formulas scratch
+pub record GoalTold (l : Lent) (s : ℕ) (scratch : List ℕ) (r : Bool) : Type 0 where
+  pub told : r ≡ holds (state_of l.head.variables s) (formula_of (upto l.head.formulas (row_at l.formulas)) l.head.goal)
+  pub values : Values (state_of l.head.variables s) (upto l.head.formulas (row_at l.formulas)) l.head.formulas scratch
 
 -- a state is taken from the queue
 pub record TakenNow (n s : ℕ) (before after : List ℕ) : Type 0 where
@@ -127,51 +131,58 @@ pub record TakenNow (n s : ℕ) (before after : List ℕ) : Type 0 where
   pub lasts : (x : ℕ) → x < n → get_or after (2 * n + x) 0 ≡ get_or before (2 * n + x) 0
 
 -- The first state of the queue is visited.
-pub record Visitable (h : Head) (f e o : List ℕ) (n s : ℕ) (words : List ℕ) : Type 0 where
+pub record Visitable (l : Lent) (n s : ℕ) (words : List ℕ) : Type 0 where
   pub t : Task
-  pub tables : TaskIn t h f e o
+  pub tables : TaskIn t l
   pub ground : Ground t n
   pub known : Known t n words
   pub first : s ≡ winner words n 1
   pub waiting : is_queued (get_or words s 0) ≡ true
 
 -- it is a goal state and stays where it is; or it is taken, and no other comes back into the queue
-pub data Visited {h : Head} {f e o : List ℕ} {n s : ℕ} {before : List ℕ} (v : Visitable h f e o n s before) (after : List ℕ) : Bool → Type 0 where
+pub data Visited {l : Lent} {n s : ℕ} {before : List ℕ} (v : Visitable l n s before) (after : List ℕ) : Bool → Type 0 where
   at_goal : goal_holds v.t (state_of (length v.t.initial) s) ≡ true → after ≡ before → Visited v after true
   passed : Known v.t n after → Visited v after false
 
-pub record Visits (h : Head) (f e o : List ℕ) (n s : ℕ) (before after : List ℕ) (r : Bool) : Type 0 where
+pub record Visits (l : Lent) (n s : ℕ) (before after : List ℕ) (r : Bool) : Type 0 where
   pub zeros : Zeros n before after
   pub gone : r ≡ false → get_or after s 0 ≡ 0
-  pub told : (v : Visitable h f e o n s before) → Visited v after r
+  pub told : (v : Visitable l n s before) → Visited v after r
 
 -- The search: from the state of code start.
-pub record Searchable (h : Head) (f e o : List ℕ) (n start : ℕ) : Type 0 where
+pub record Searchable (l : Lent) (n start : ℕ) : Type 0 where
   pub t : Task
-  pub tables : TaskIn t h f e o
+  pub tables : TaskIn t l
   pub ground : Ground t n
   pub there : start < n
-  pub initial : t.initial ≡ state_of h.variables start
+  pub initial : t.initial ≡ state_of l.head.variables start
 
-pub data SearchEnd (t : Task) (n : ℕ) (words : List ℕ) (r : ℕ) : Type 0 where
-  no_end : r ≡ n → cheapest t ≡ no_plan → SearchEnd t n words r
-  first_end :
-      r < n
-      → Known t n words
-      → r ≡ winner words n 1
-      → is_queued (get_or words r 0) ≡ true
-      → goal_holds t (state_of (length t.initial) r) ≡ true
-      → SearchEnd t n words r
+-- the state that is taken next, if one is queued
+abbrev pub Next : List ℕ → ℕ → Option ℕ → Type 0
+Next words n (Some s) = (s ≡ winner words n 1) × (is_queued (get_or words s 0) ≡ true)
+Next words n None = is_queued (get_or words (winner words n 1) 0) ≡ false
 
-pub record Searches (h : Head) (f e o : List ℕ) (n start : ℕ) (words : List ℕ) (r : ℕ) : Type 0 where
-  pub told : (v : Searchable h f e o n start) → SearchEnd v.t n words r
+-- the first goal state of the queue, or none
+pub record FirstEnd (t : Task) (n : ℕ) (words : List ℕ) (r : ℕ) : Type 0 where
+  pub below : r < n
+  pub known : Known t n words
+  pub first : r ≡ winner words n 1
+  pub waiting : is_queued (get_or words r 0) ≡ true
+  pub goal : goal_holds t (state_of (length t.initial) r) ≡ true
+
+abbrev pub SearchEnd : Task → ℕ → List ℕ → Option ℕ → Type 0
+SearchEnd t n words (Some r) = FirstEnd t n words r
+SearchEnd t n words None = cheapest t ≡ no_plan
+
+pub record Searches (l : Lent) (n start : ℕ) (words : List ℕ) (r : Option ℕ) : Type 0 where
+  pub told : (v : Searchable l n start) → SearchEnd v.t n words r
 
 -- A queued goal state of the least key.
-pub record EndReady (h : Head) (f : List ℕ) (n end : ℕ) (words : List ℕ) : Type 0 where
+pub record EndReady (l : Lent) (n end : ℕ) (words : List ℕ) : Type 0 where
   pub t : Task
-  pub variables : length t.initial ≡ h.variables
-  pub formulas : t.formulas ≡ upto h.formulas (row_at f)
-  pub goal : t.goal ≡ h.goal
+  pub variables : length t.initial ≡ l.head.variables
+  pub formulas : t.formulas ≡ upto l.head.formulas (row_at l.formulas)
+  pub goal : t.goal ≡ l.head.goal
   pub ground : Ground t n
   pub status : List ℕ → Status
   pub last : List ℕ
@@ -185,7 +196,7 @@ pub record EndReady (h : Head) (f : List ℕ) (n end : ℕ) (words : List ℕ) :
   pub least : LeastKey (length t.initial) status p c
 
 -- whether state s is a better end
-pub data Rivals {h : Head} {f : List ℕ} {n end : ℕ} {words : List ℕ} (v : EndReady h f n end words) (s : ℕ) : Bool → Type 0 where
+pub data Rivals {l : Lent} {n end : ℕ} {words : List ℕ} (v : EndReady l n end words) (s : ℕ) : Bool → Type 0 where
   takes_over :
       (r : List ℕ)
       → v.status (state_of (length v.t.initial) s) ≡ queued r v.c
@@ -200,8 +211,8 @@ pub data Rivals {h : Head} {f : List ℕ} {n end : ℕ} {words : List ℕ} (v : 
       → NoLater v.c v.p e r)
       → Rivals v s false
 
-pub record Replaces (h : Head) (f : List ℕ) (n end s : ℕ) (words : List ℕ) (r : Bool) : Type 0 where
-  pub told : (v : EndReady h f n end words) → Rivals v s r
+pub record Replaces (l : Lent) (n end s : ℕ) (words : List ℕ) (r : Bool) : Type 0 where
+  pub told : (v : EndReady l n end words) → Rivals v s r
 
 -- The best end: its list is the cheapest plan.
 pub record EndFound (t : Task) (n end : ℕ) (words : List ℕ) : Type 0 where
@@ -212,9 +223,9 @@ pub record EndFound (t : Task) (n end : ℕ) (words : List ℕ) : Type 0 where
   pub is : status (state_of (length t.initial) end) ≡ queued p c
   pub best : cheapest t ≡ plan_of p c
 
-pub record FindsEnd (h : Head) (f : List ℕ) (n first : ℕ) (words : List ℕ) (r : ℕ) : Type 0 where
+pub record FindsEnd (l : Lent) (n first : ℕ) (words : List ℕ) (r : ℕ) : Type 0 where
   pub there : r < n
-  pub told : (v : EndReady h f n first words) → EndFound v.t n r words
+  pub told : (v : EndReady l n first words) → EndFound v.t n r words
 
 -- The list of a state is written.
 pub record Writable (n : ℕ) (words : List ℕ) (state steps : ℕ) : Type 0 where

@@ -1,27 +1,24 @@
 -- Writing the finished task from what was built: what it asks, and what it leaves.
-use Rattle.std.specs.Prelude.{ℕ, ◌+◌, ◌*◌, ◌≤◌, ◌≡◌, true, false, List, ◌++◌, length, take, drop}
+use Rattle.std.specs.Prelude.{ℕ, ◌+◌, ◌*◌, ◌≤◌, ◌≡◌, List, ◌++◌, length, take, drop, Result, Ok, Err}
 use Rattle.normal_form.specs.Assembly.{Assembled}
 use Rattle.normal_form.specs.Finished.{twin_values}
-use Rattle.formula_builder.specs.declared.Step.{Step}
+use Rattle.formula_builder.specs.Inner.Held.{Step}
 use Rattle.rule_writer.specs.declared.Frame.{Frame}
 use Rattle.rule_writer.specs.Inner.Writes.{InitialReady}
 use Rattle.assembling.specs.Inner.Assembles.{assembled_in, Holding, Assembles, Twinned}
 use Rattle.compile_parts.specs.declared.Counts.{Counts}
 use Rattle.compile_parts.specs.declared.Filled.{Filled}
 
--- the four tables that are written: initial values, formulas, effects, operators
+-- the five tables that are written: initial values, twins, formulas, effects, operators
 pub record Outputs : Type 0 where
   pub values : List ℕ
+  pub twins : List ℕ
   pub table : List ℕ
   pub effects : List ℕ
   pub operators : List ℕ
 
-abbrev pub outputs : (values table effects operators : List ℕ) → Outputs
-outputs v t e o = record { values = v; table = t; effects = e; operators = o }
-
--- the answer without room
-abbrev pub nothing_filled : Filled
-nothing_filled = record { rows = 0; twins = 0; effects = 0; goal = 0; full = true }
+abbrev pub outputs : (values twins table effects operators : List ℕ) → Outputs
+outputs v w t e o = record { values = v; twins = w; table = t; effects = e; operators = o }
 
 -- the counts of rules: source variables, the twins that were built, and room for effect rows
 abbrev pub rules_frame : Counts → Step → Frame
@@ -40,14 +37,10 @@ pub record Stands (c : Counts) (w : Step) (initial operators originals built rec
   pub limit : w.rows ≤ 4096
   pub there : 3 * w.rows ≤ length built
   pub space : 3 * w.rows ≤ length x.table
-
--- It does, unless there was no room to build it.
-pub record Finishes (c : Counts) (w : Step) (initial operators originals built records : List ℕ) (x : Outputs) : Type 0 where
-  pub stands : w.full ≡ false → Stands c w initial operators originals built records x
+  pub twins_space : w.twins ≤ length x.twins
 
 -- All is written.
 pub record Ended (c : Counts) (w : Step) (initial operators originals built records : List ℕ) (x y : Outputs) (r : Filled) : Type 0 where
-  pub whole : w.full ≡ false
   pub holding : Holding (rules_of c w operators originals records) r.effects c.operators y.effects y.operators
   pub within : r.effects ≤ c.room
   pub values :
@@ -55,16 +48,17 @@ pub record Ended (c : Counts) (w : Step) (initial operators originals built reco
       ≡ (take c.frame.variables initial ++ twin_values (take c.frame.variables initial) (take w.twins originals))
       ++ drop (c.frame.variables + w.twins) x.values
   pub table : y.table ≡ take (3 * w.rows) built ++ drop (3 * w.rows) x.table
-  pub answer : r ≡ record { rows = w.rows; twins = w.twins; effects = r.effects; goal = w.row; full = false }
+  pub twins : y.twins ≡ take w.twins originals ++ drop w.twins x.twins
+  pub answer : r ≡ record { rows = w.rows; twins = w.twins; effects = r.effects; goal = w.row }
 
--- There was no room to build, or is none for the rules. The tables of initial values and of formulas, which are written last, stay; what stands in
+-- There is no room for the rules. The tables of initial values, of twins and of formulas, which are written last, stay; what stands in
 -- the other two is left open, since `compile` then clears them.
-pub record Lacks (c : Counts) (w : Step) (operators originals records : List ℕ) (x y : Outputs) (r : Filled) : Type 0 where
-  pub misfit : w.full ≡ false → length (rules_of c w operators originals records).effects ≤ c.room → ⊥
-  pub answer : r ≡ nothing_filled
+pub record Lacks (c : Counts) (w : Step) (operators originals records : List ℕ) (x y : Outputs) : Type 0 where
+  pub misfit : length (rules_of c w operators originals records).effects ≤ c.room → ⊥
   pub values : y.values ≡ x.values
   pub table : y.table ≡ x.table
+  pub twins : y.twins ≡ x.twins
 
-pub record Finished (c : Counts) (w : Step) (initial operators originals built records : List ℕ) (x y : Outputs) (r : Filled) : Type 0 where
-  pub done : r.full ≡ false → Ended c w initial operators originals built records x y r
-  pub over : r.full ≡ true → Lacks c w operators originals records x y r
+abbrev pub Finished : {E : Type 0} → Counts → Step → (initial operators originals built records : List ℕ) → Outputs → Outputs → Result Filled E → Type 0
+Finished c w initial operators originals built records x y (Ok r) = Ended c w initial operators originals built records x y r
+Finished c w initial operators originals built records x y (Err e) = Lacks c w operators originals records x y

@@ -10,6 +10,16 @@ use Rattle.compiled_file.specs.Filed.{CompileEntry, compiled_file_by}
 unfoldable pub compile_through : Lent → Room → (o r : ℕ) → CompileEntry
 compile_through l room o r = compiled_file_by (compile_refusal l room) (finished (task_of l)) o r
 
+-- tables of these sizes to compile through
+abbrev pub room_in : (words operators scratch : ℕ) → Room
+room_in w o s = record { initial = 512; twins = 256; formulas = w; effects = w; operators = o; scratch = s }
+
+-- sizes that a frame has room for
+pub record Sizes (words operators scratch : ℕ) : Type 0 where
+  pub rows : words ≤ 65536
+  pub operator_rows : operators ≤ 65536
+  pub notes : scratch ≤ 65536
+
 -- small room, which is tried first for a source in small tables
 unfoldable pub small_room : Room
 small_room =

@@ -1,5 +1,5 @@
 -- Filling the lent tables: what it asks, and what it leaves.
-use Rattle.std.specs.Prelude.{ℕ, ◌+◌, ◌*◌, ◌≤◌, ◌≡◌, true, false, List, [], length, replicate}
+use Rattle.std.specs.Prelude.{ℕ, ◌+◌, ◌*◌, ◌≤◌, ◌≡◌, List, [], length, replicate, Result, Ok, Err}
 use Rattle.task.specs.declared.Head.{Head}
 use Rattle.task.specs.Table.{Lent, lent, task_of, operator_width}
 use Rattle.task.specs.Check.{refusal}
@@ -8,6 +8,7 @@ use Rattle.normal_form.specs.Finished.{finished}
 use Rattle.normal_form.specs.Compiled.{Fits}
 use Rattle.normal_form.specs.Inner.Allowed.{Allows}
 use Rattle.formula_builder.specs.declared.Frame.{Frame}
+use Rattle.atom_sets.specs.Inner.Sets.{sets_end}
 use Rattle.compile_parts.specs.declared.Counts.{Counts}
 use Rattle.compile_parts.specs.declared.Filled.{Filled}
 use Rattle.compiler.specs.Tables.{Tables, room_of}
@@ -32,17 +33,17 @@ pub record Counted : Type 0 where
   pub effects : List ℕ
   pub operators : List ℕ
 
-abbrev pub counted : Counts → (initial formulas effects operators : List ℕ) → Counted
-counted c i f e o =
+abbrev pub counted : Counts → Lent → Counted
+counted c l =
     record {
       frame = c.frame;
       count = c.operators;
       goal = c.goal;
       room = c.room;
-      initial = i;
-      formulas = f;
-      effects = e;
-      operators = o;
+      initial = l.initial;
+      formulas = l.formulas;
+      effects = l.effects;
+      operators = l.operators;
     }
 
 abbrev pub counts : Counted → Counts
@@ -82,12 +83,13 @@ pub record Roomy (g : Counted) (x : Tables) : Type 0 where
   pub begins : Begins g x
   pub allows : Allows g.frame.variables (room_of x) g.frame.rows g.frame.twins g.room
 
--- Few rows are asked for, of few effects and variables.
-pub record BeginsSmall (g : Counted) (x : Tables) : Type 0 where
+-- A frame with so many words for rows and for notes is enough, and not larger than the large one.
+pub record Enough (built notes : ℕ) (g : Counted) (x : Tables) : Type 0 where
   pub begins : Begins g x
-  pub few_rows : g.frame.rows ≤ 512
-  pub few_effects : g.frame.effects ≤ 512
-  pub few_variables : g.frame.variables ≤ 128
+  pub rows_limit : built ≤ 37376
+  pub notes_limit : notes ≤ 610304
+  pub rows_fit : 9 * g.frame.rows + g.frame.variables ≤ built
+  pub notes_fit : sets_end g.frame ≤ notes
 
 -- the head of the compiled task: operators keep their number
 abbrev pub head_after : Head → Filled → Head
@@ -111,12 +113,25 @@ pub record Holds (l : Lent) (x y : Tables) (r : Filled) : Type 0 where
   pub effects : y.effects ≡ padded (length x.effects) (words_of (finished (task_of l)).effects)
   pub operators : y.operators ≡ padded (length x.operators) (operator_words (finished (task_of l)).operators)
 
--- They hold it, or are as they came.
-pub record Tries (g : Counted) (x y : Tables) (r : Filled) : Type 0 where
-  pub done : r.full ≡ false → Holds (lent_of g) x y r
-  pub over : r.full ≡ true → y ≡ x
+-- The tables are as they came; and the finished task does not fit, if what is counted is all that the limits and the tables allow.
+pub record Unfilled (g : Counted) (x y : Tables) : Type 0 where
+  pub same : y ≡ x
+  pub misfit :
+      Allows g.frame.variables (room_of x) g.frame.rows g.frame.twins g.room
+      → Fits (finished (task_of (lent_of g))) (room_of x)
+      → ⊥
 
--- They hold it, or it does not fit, and they are as they came.
-pub record Fills (g : Counted) (x y : Tables) (r : Filled) : Type 0 where
-  pub tries : Tries g x y r
-  pub misfit : r.full ≡ true → Fits (finished (task_of (lent_of g))) (room_of x) → ⊥
+-- They hold it, or are as they came.
+abbrev pub Tries : {E : Type 0} → Counted → Tables → Tables → Result Filled E → Type 0
+Tries g x y (Ok r) = Holds (lent_of g) x y r
+Tries g x y (Err e) = Unfilled g x y
+
+-- The tables are as they came, since the finished task does not fit.
+pub record Misfits (g : Counted) (x y : Tables) : Type 0 where
+  pub same : y ≡ x
+  pub misfit : Fits (finished (task_of (lent_of g))) (room_of x) → ⊥
+
+-- They hold it, or it does not fit.
+abbrev pub Fills : {E : Type 0} → Counted → Tables → Tables → Result Filled E → Type 0
+Fills g x y (Ok r) = Holds (lent_of g) x y r
+Fills g x y (Err e) = Misfits g x y

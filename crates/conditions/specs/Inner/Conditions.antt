@@ -1,5 +1,5 @@
 -- What the memo of effect conditions and the notes hold, and what the code that builds conditions asks and answers.
-use Rattle.std.specs.Prelude.{ℕ, ◌+◌, ◌-◌, ◌*◌, ◌≤◌, ◌<◌, ◌≡◌, Bool, true, false, cond, List, eqb, leb, length, get_or}
+use Rattle.std.specs.Prelude.{ℕ, ◌+◌, ◌*◌, ◌≤◌, ◌<◌, ◌≡◌, Bool, true, false, cond, List, eqb, leb, length, get_or, Result}
 use Rattle.task.specs.Bounded.{upto}
 use Rattle.task.specs.Table.{Row, row_at, EffectKind, empty_kind, set_kind, clear_kind, both_kind, under_kind, unknown_effect, effect_kind}
 use Rattle.task.specs.Semantics.{Atom, sets, clears, same_atom, Effect}
@@ -8,12 +8,12 @@ use Rattle.task.specs.Inner.Rows.{EffectsDown}
 use Rattle.normal_form.specs.Builder.{St, Build, give, join, image_of_false, image_of_true}
 use Rattle.normal_form.specs.Conditions.{condition}
 use Rattle.formula_builder.specs.declared.Frame.{Frame}
-use Rattle.formula_builder.specs.declared.Size.{Size}
-use Rattle.formula_builder.specs.declared.Step.{Step}
-use Rattle.formula_builder.specs.Inner.Held.{Store, held, size_of, side, Ready, Builds}
-use Rattle.images.specs.Inner.Images.{source_rows, Known, Memo, Source}
+use Rattle.formula_builder.specs.declared.NoRoom.{NoRoom}
+use Rattle.formula_builder.specs.Inner.Held.{Size, Step, Store, held, size_of, side, size_in, store_in, step_by, Ready, Builds}
+use Rattle.images.specs.Inner.Images.{source_rows, Known, Memo, Source, SameImages}
 use Rattle.atom_sets.specs.Inner.Sets.{sets_end, lacks}
 use Rattle.conditions.specs.declared.Target.{Target}
+use Rattle.conditions.specs.declared.ConditionBuilder.{ConditionBuilder}
 
 abbrev pub atom_by : Bool → ℕ → Atom
 atom_by false v = sets v
@@ -179,22 +179,20 @@ pub record AsksKept (frame : Frame) (notes scratch : List ℕ) (t : Target) (e :
   pub formulas : frame.formulas ≤ 4096
   pub memo : 2 * frame.formulas + 2 * frame.effects ≤ length scratch
 
--- Word w is 0, or what the notes have of target t and row e.
-pub record RecallsNoted (frame : Frame) (notes : List ℕ) (t : Target) (e w : ℕ) : Type 0 where
+-- The row is what the notes have of target t and row e.
+pub record RecallsNoted (frame : Frame) (notes : List ℕ) (t : Target) (e row : ℕ) : Type 0 where
   pub known :
       (formulas effects : List ℕ) (s : St)
       → Noted frame formulas effects notes s
-      → 0 < w
-      → Known (condition_at frame formulas effects t e) s (w - 1)
+      → Known (condition_at frame formulas effects t e) s row
 
--- Word w is 0, or what memo or notes have of target t and row e.
-pub record Recalls (frame : Frame) (notes scratch : List ℕ) (t : Target) (e w : ℕ) : Type 0 where
+-- The row is what memo or notes have of target t and row e.
+pub record Recalls (frame : Frame) (notes scratch : List ℕ) (t : Target) (e row : ℕ) : Type 0 where
   pub known :
       (formulas effects : List ℕ) (s : St)
       → Noted frame formulas effects notes s
       → EffectMemo frame formulas effects scratch s
-      → 0 < w
-      → Known (condition_at frame formulas effects t e) s (w - 1)
+      → Known (condition_at frame formulas effects t e) s row
 
 -- The notes stay right if the row is known as the condition of target t and row e.
 pub record KeepsNoted (frame : Frame) (notes notes' : List ℕ) (t : Target) (e row : ℕ) : Type 0 where
@@ -231,3 +229,34 @@ pub record Conditions (m : Build ℕ) (frame : Frame) (formulas effects notes' :
   pub noted : r.full ≡ false → Noted frame formulas effects notes' (held (size_of r) after)
   pub memo : r.full ≡ false → Memo frame formulas scratch' (held (size_of r) after)
   pub effect_memo : r.full ≡ false → EffectMemo frame formulas effects scratch' (held (size_of r) after)
+
+-- what a builder of conditions builds
+abbrev pub condition_by : ConditionBuilder → Target → ℕ → Build ℕ
+condition_by b t e = condition_at b.images.builder.frame b.images.formulas.now b.effects.now t e
+
+-- what it asks: of what one began, where another stands
+abbrev pub AsksThere : ConditionBuilder → ConditionBuilder → Target → ℕ → Type 0
+AsksThere b c t e =
+    Asks b.images.builder.frame b.images.formulas.now b.effects.now c.notes.now t (size_in c.images.builder) (store_in c.images.builder)
+    c.images.scratch.now e
+
+abbrev pub AsksCondition : ConditionBuilder → Target → ℕ → Type 0
+AsksCondition b t e = AsksThere b b t e
+
+-- A builder of conditions stays the same one: its effects, and which notes, scratch and tables it has.
+pub record SameConditions (b c : ConditionBuilder) : Type 0 where
+  pub images : SameImages b.images c.images
+  pub effects : c.effects.now ≡ b.effects.now
+  pub notes : c.notes.ghost_name ≡ b.notes.ghost_name
+  pub notes_length : length c.notes.now ≡ length b.notes.now
+
+-- A step, of what b began, from c to d.
+pub record Later (m : Build ℕ) (b c d : ConditionBuilder) (r : Result ℕ NoRoom) : Type 0 where
+  pub conditions :
+      Conditions m b.images.builder.frame b.images.formulas.now b.effects.now d.notes.now (size_in c.images.builder)
+      (store_in c.images.builder) (store_in d.images.builder) d.images.scratch.now (step_by d.images.builder r)
+  pub same : SameConditions b d
+
+-- A step of a builder of conditions, and what it answers.
+abbrev pub Conditioned : Build ℕ → (b c : ConditionBuilder) → Result ℕ NoRoom → Type 0
+Conditioned m b c r = Later m b b c r

@@ -1,23 +1,20 @@
 -- The last join of each effect row, which the notes keep: what the code that joins asks and answers.
-use Rattle.std.specs.Prelude.{ℕ, ◌-◌, ◌<◌, ◌≡◌, Bool, false, List, eqb}
+use Rattle.std.specs.Prelude.{ℕ, ◌≡◌, Bool, false, List, eqb}
 use Rattle.task.specs.Table.{row_at}
 use Rattle.normal_form.specs.Builder.{St, join}
 use Rattle.formula_builder.specs.declared.Frame.{Frame}
-use Rattle.formula_builder.specs.declared.Size.{Size}
-use Rattle.formula_builder.specs.declared.Step.{Step}
-use Rattle.formula_builder.specs.Inner.Held.{Store, store, held, size_of, sized, side, Ready, Builds}
+use Rattle.formula_builder.specs.Inner.Held.{Size, Step, Store, held, size_of, side, JoinReady, Ready, Builds}
 use Rattle.images.specs.Inner.Images.{Known}
 use Rattle.conditions.specs.declared.Target.{Target}
 use Rattle.conditions.specs.Inner.Conditions.{join_of, Noted, Looks}
 
--- Word w is 0, or the target is plain and w is what the notes keep of rows l and r for row e.
-pub record Rejoins (frame : Frame) (notes : List ℕ) (t : Target) (e l r w : ℕ) : Type 0 where
-  pub plain : 0 < w → t.negated ≡ false
+-- The target is plain, and row x is what the notes keep of rows l and r for row e.
+pub record Rejoins (frame : Frame) (notes : List ℕ) (t : Target) (e l r x : ℕ) : Type 0 where
+  pub plain : t.negated ≡ false
   pub known :
       (formulas effects : List ℕ) (s : St)
       → Noted frame formulas effects notes s
-      → 0 < w
-      → Known (join_of effects e l r) s (w - 1)
+      → Known (join_of effects e l r) s x
 
 -- The notes stay right if the target is negated, or row x is known as the join of rows l and r for row e.
 pub record KeepsJoin (frame : Frame) (notes notes' : List ℕ) (t : Target) (e l r x : ℕ) : Type 0 where
@@ -27,14 +24,10 @@ pub record KeepsJoin (frame : Frame) (notes notes' : List ℕ) (t : Target) (e l
       → Noted frame formulas effects notes s
       → Noted frame formulas effects notes' s
 
--- What joining rows l and r for row e asks. The twins and originals are those that stand beside the table.
-pub record AsksJoin (frame : Frame) (notes : List ℕ) (e stand : ℕ) (table : List ℕ) (l r : ℕ) : Type 0 where
+-- What joining rows l and r for row e asks.
+pub record AsksJoin (frame : Frame) (notes : List ℕ) (e : ℕ) (at : Size) (before : Store) (l r : ℕ) : Type 0 where
   pub looks : Looks frame notes e
-  pub twins : ℕ
-  pub originals : List ℕ
-  pub ready : Ready frame (sized stand twins) (store table originals)
-  pub left : l < stand
-  pub right : r < stand
+  pub rows : JoinReady frame at before l r
 
 -- The notes are right, and a plain target's flag is that of row e's join.
 pub record JoinsAs (frame : Frame) (formulas effects notes : List ℕ) (t : Target) (e : ℕ) (or : Bool) (at : Size) (before : Store) : Type 0 where

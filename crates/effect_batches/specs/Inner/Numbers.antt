@@ -50,12 +50,6 @@ pub record Renumbered (n : ℕ) (notes notes' : List ℕ) (r : ℕ) : Type 0 whe
   pub numbers : Numbers n notes' r
   pub behind : (j : ℕ) → n ≤ j → get_or notes' j 0 ≡ get_or notes j 0
 
--- The words from one on to another are 0, all others are as they were.
-pub record Cleared (from to : ℕ) (notes notes' : List ℕ) : Type 0 where
-  pub zero : (j : ℕ) → from ≤ j → j < to → get_or notes' j 0 ≡ 0
-  pub ahead : (j : ℕ) → j < from → get_or notes' j 0 ≡ get_or notes j 0
-  pub behind : (j : ℕ) → to ≤ j → get_or notes' j 0 ≡ get_or notes j 0
-
 -- There is a next operator.
 pub record Sizes (frame : Frame) (effects operators first notes : List ℕ) (from count : ℕ) : Type 0 where
   pub room : Room frame effects first notes

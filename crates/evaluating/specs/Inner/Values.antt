@@ -10,12 +10,12 @@ use Rattle.task.specs.Inner.Values.{bit, Values}
 abbrev pub rows_of : ℕ → List ℕ → List Row
 rows_of n words = upto n (row_at words)
 
--- what the kinds that name two formulas make of their truth values
+-- what the kinds but "variable" make of the truth values of the formulas that they name; one that names fewer does not look at the others
 unfoldable pub joins : FormulaKind → (p q : Bool) → Bool
 joins false_kind p q = false
-joins true_kind p q = false
+joins true_kind p q = true
 joins variable_kind p q = false
-joins not_kind p q = false
+joins not_kind p q = not p
 joins and_kind p q = p && q
 joins or_kind p q = p || q
 joins implies_kind p q = not p || q

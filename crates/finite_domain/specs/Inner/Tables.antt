@@ -4,7 +4,6 @@ use Rattle.task.specs.declared.Head.{Head}
 use Rattle.task.specs.declared.Table.{Table}
 use Rattle.task.specs.declared.Table.TheVariants.{Formulas, Effects, Operators}
 use Rattle.task.specs.declared.TableRow.{TableRow}
-use Rattle.task.specs.Bounded.{or_else, first_number}
 use Rattle.task.specs.Table.{Row, operator, row_at, operator_at}
 use Rattle.task.specs.Check.{operator_number}
 use Rattle.finite_domain.specs.Check.{finite_formula_number, finite_effect_number}
@@ -25,10 +24,3 @@ abbrev pub finite_row_number : Table → Head → (counts words : List ℕ) → 
 finite_row_number Formulas h counts words = λ i. finite_formula_number counts h.variables i (row_at words i)
 finite_row_number Effects h counts words = λ i. finite_effect_number counts h.variables h.formulas i (row_at words i)
 finite_row_number Operators h counts words = λ i. operator_number h.formulas h.effects (operator_at words i)
-
--- the first number among the rows of the three tables
-abbrev pub finite_tables_number : Head → (counts formulas effects operators : List ℕ) → ℕ
-finite_tables_number h counts formulas effects operators =
-    or_else (first_number h.formulas (finite_row_number Formulas h counts formulas))
-    (or_else (first_number h.effects (finite_row_number Effects h counts effects))
-    (first_number h.operators (finite_row_number Operators h counts operators)))

@@ -1,13 +1,13 @@
 -- What lent tables hold of a builder's state, and what a step of the code answers: what the definition gives, or that it does not fit.
-use Rattle.std.specs.Prelude.{ℕ, suc, ◌+◌, ◌*◌, ◌≤◌, ◌<◌, ◌≡◌, Bool, true, false, List, length, get_or, take, eqb}
+use Rattle.std.specs.Prelude.{ℕ, suc, ◌+◌, ◌*◌, ◌≤◌, ◌<◌, ◌≡◌, Bool, true, false, List, length, get_or, take, eqb, Result, Ok, Err}
 use Rattle.task.specs.Bounded.{upto}
 use Rattle.task.specs.Table.{Row, row_at}
 use Rattle.normal_form.specs.Builder.{St, Build, place, Polarity, plain, negated}
 use Rattle.formula_builder.specs.Inner.Index.{Indexed}
 use Rattle.formula_builder.specs.declared.Words.{Words}
 use Rattle.formula_builder.specs.declared.Frame.{Frame}
-use Rattle.formula_builder.specs.declared.Size.{Size}
-use Rattle.formula_builder.specs.declared.Step.{Step}
+use Rattle.formula_builder.specs.declared.NoRoom.{NoRoom}
+use Rattle.formula_builder.specs.declared.Builder.{Builder}
 
 abbrev pub row_of : Words → Row
 row_of w = record { kind = w.kind; a = w.a; b = w.b }
@@ -17,10 +17,17 @@ abbrev pub side : Bool → Polarity
 side false = plain
 side true = negated
 
--- a frame by its five numbers
-abbrev pub framed : List ℕ → Frame
-framed w =
-    record { variables = get_or w 0 0; formulas = get_or w 1 0; effects = get_or w 2 0; rows = get_or w 3 0; twins = get_or w 4 0 }
+-- How many rows and twins stand.
+pub record Size : Type 0 where
+  pub rows : ℕ
+  pub twins : ℕ
+
+-- A step from one size to another: the size after it and the row that it built; or that there was no room.
+pub record Step : Type 0 where
+  pub rows : ℕ
+  pub twins : ℕ
+  pub row : ℕ
+  pub full : Bool
 
 -- The two tables that building writes: formula words, and originals of twins.
 pub record Store : Type 0 where
@@ -41,13 +48,29 @@ size_of r = record { rows = r.rows; twins = r.twins }
 abbrev pub sized : ℕ → ℕ → Size
 sized n w = record { rows = n; twins = w }
 
--- the step that answered k and left these two counts; 65535 says that there was no room
-abbrev pub stepped : ℕ → ℕ → ℕ → Step
-stepped n w k = record { rows = n; twins = w; row = k; full = eqb k 65535 }
-
--- a step that answers row x and adds nothing
+-- a step that answers row x and adds nothing, and one for which there is no room
 abbrev pub done_step : Size → ℕ → Step
 done_step at x = record { rows = at.rows; twins = at.twins; row = x; full = false }
+
+abbrev pub full_step : Size → Step
+full_step at = record { rows = at.rows; twins = at.twins; row = 65535; full = true }
+
+-- what a builder holds
+abbrev pub size_in : Builder → Size
+size_in b = sized b.rows b.twins
+
+abbrev pub store_in : Builder → Store
+store_in b = store b.table.now b.originals.now
+
+-- the step that left a builder and answered so
+abbrev pub step_by : Builder → Result ℕ NoRoom → Step
+step_by b (Ok x) = done_step (size_in b) x
+step_by b (Err e) = full_step (size_in b)
+
+-- whether there was no room
+abbrev pub full_by : {A : Type 0} → Result A NoRoom → Bool
+full_by (Ok x) = false
+full_by (Err e) = true
 
 -- The table has room for so many rows and their index, no more stand, and the index finds them.
 pub record RowsReady (most stand : ℕ) (table : List ℕ) : Type 0 where
@@ -56,12 +79,6 @@ pub record RowsReady (most stand : ℕ) (table : List ℕ) : Type 0 where
   pub limit : most ≤ 4096
   pub room : 9 * most ≤ length table
   pub index : Indexed most stand table
-
-pub record JoinReady (most stand : ℕ) (table : List ℕ) (a b : ℕ) : Type 0 where
-  pub rows : RowsReady most stand table
-  pub two : 2 ≤ stand
-  pub left : a < stand
-  pub right : b < stand
 
 -- the row of a variable
 abbrev pub variable_of : ℕ → Row
@@ -96,6 +113,15 @@ pub record Ready (frame : Frame) (at : Size) (s : Store) : Type 0 where
   pub past_twins : (j : ℕ) → at.twins ≤ j → get_or s.originals j 0 ≡ 0
   pub named : TwinsNamed frame at s
 
+abbrev pub BuilderReady : Builder → Type 0
+BuilderReady b = Ready b.frame (size_in b) (store_in b)
+
+-- The tables are ready, and two rows stand that are to be joined.
+pub record JoinReady (frame : Frame) (at : Size) (s : Store) (a b : ℕ) : Type 0 where
+  pub ready : Ready frame at s
+  pub left : a < at.rows
+  pub right : b < at.rows
+
 -- A state within the frame.
 pub record Within (frame : Frame) (s : St) : Type 0 where
   pub rows : length s.rows ≤ frame.rows
@@ -116,3 +142,21 @@ pub record Builds (m : Build ℕ) (frame : Frame) (at : Size) (before after : St
   pub done : r.full ≡ false → Done m frame at before after r
   pub over : r.full ≡ true → Within frame (m (held at before)).st → ⊥
   pub still : r.full ≡ true → Ready frame (size_of r) after
+
+-- A builder stays the same one: its frame, and which tables it has.
+pub record Same (b c : Builder) : Type 0 where
+  pub frame : c.frame ≡ b.frame
+  pub table : c.table.ghost_name ≡ b.table.ghost_name
+  pub table_length : length c.table.now ≡ length b.table.now
+  pub originals : c.originals.ghost_name ≡ b.originals.ghost_name
+  pub originals_length : length c.originals.now ≡ length b.originals.now
+
+-- A step of a builder, and what it answers.
+pub record Built (m : Build ℕ) (b c : Builder) (r : Result ℕ NoRoom) : Type 0 where
+  pub builds : Builds m b.frame (size_in b) (store_in b) (store_in c) (step_by c r)
+  pub same : Same b c
+
+-- It leaves the twins as they were.
+pub record SameTwins (b c : Builder) : Type 0 where
+  pub count : c.twins ≡ b.twins
+  pub originals : c.originals.now ≡ b.originals.now

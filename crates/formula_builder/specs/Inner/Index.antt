@@ -1,7 +1,7 @@
 -- The index of the rows that are built, with room for so many rows at most: behind their words stand two links for each row, and behind the links
 -- four heads for each. A link or a head names a row by its number and 1; 0 names none. The rows under one head are a tree: behind a row that is not the one
 -- looked for, the next bit of the key says which of its links goes on.
-use Rattle.std.specs.Prelude.{ℕ, suc, ◌+◌, ◌*◌, ◌/◌, ◌%◌, ◌≤◌, ◌<◌, ◌≡◌, cond, List, length, get_or, set, eqb}
+use Rattle.std.specs.Prelude.{ℕ, suc, ◌+◌, ◌*◌, ◌/◌, ◌%◌, ◌≤◌, ◌<◌, ◌≡◌, List, length, get_or, set}
 use Rattle.task.specs.Bounded.{upto}
 use Rattle.task.specs.Table.{Row, row_at}
 use Rattle.normal_form.specs.Builder.{start}
@@ -69,23 +69,6 @@ three t n r = set (set (set t (3 * n) r.kind) (3 * n + 1) r.a) (3 * n + 2) r.b
 -- row r stored behind n rows, and named by word p
 abbrev pub appended : List ℕ → ℕ → Row → ℕ → List ℕ
 appended t n r p = set (three t n r) p (n + 1)
-
--- Row r is put among n rows, where word p ends the walk for it: it stands as row k; or there is no room, and k is 65535; or it is appended as row n.
-pub data Put (most n : ℕ) (t : List ℕ) (r : Row) (t' : List ℕ) (k : ℕ) : Type 0 where
-  stood : (p : ℕ) → Found most t r p → get_or t p 0 ≡ suc k → t' ≡ t → Put most n t r t' k
-  no_room : (p : ℕ) → Found most t r p → get_or t p 0 ≡ 0 → n ≡ most → t' ≡ t → k ≡ 65535 → Put most n t r t' k
-  behind :
-      (p : ℕ)
-      → Found most t r p
-      → get_or t p 0 ≡ 0
-      → (n ≡ most → ⊥)
-      → t' ≡ appended t n r p
-      → k ≡ n
-      → Put most n t r t' k
-
--- how many rows stand after row k was put among n
-abbrev pub rows_after : (n k : ℕ) → ℕ
-rows_after n k = cond (eqb k n) (n + 1) n
 
 -- A table that nothing stands in, with room for two rows at least.
 pub record Empty (most : ℕ) (t : List ℕ) : Type 0 where

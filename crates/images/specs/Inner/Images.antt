@@ -1,16 +1,16 @@
 -- What the memo of images holds, and what the code that builds images asks and answers.
-use Rattle.std.specs.Prelude.{ℕ, ◌+◌, ◌-◌, ◌*◌, ◌≤◌, ◌<◌, ◌≡◌, Bool, true, false, cond, not, List, length, get_or, eqb}
+use Rattle.std.specs.Prelude.{ℕ, ◌+◌, ◌*◌, ◌≤◌, ◌<◌, ◌≡◌, Bool, true, false, not, List, length, get_or, Result}
 use Rattle.task.specs.Bounded.{upto}
 use Rattle.task.specs.Table.{Row, row_at}
 use Rattle.task.specs.Semantics.{Formula}
 use Rattle.task.specs.Tree.{formula_of}
 use Rattle.task.specs.Inner.Rows.{FormulasDown}
-use Rattle.normal_form.specs.Builder.{St, Build, Polarity, plain, negated, give, pair}
-use Rattle.normal_form.specs.Image.{literal, image}
+use Rattle.normal_form.specs.Builder.{St, Build, Polarity, plain, negated, pair}
+use Rattle.normal_form.specs.Image.{image}
 use Rattle.formula_builder.specs.declared.Frame.{Frame}
-use Rattle.formula_builder.specs.declared.Size.{Size}
-use Rattle.formula_builder.specs.declared.Step.{Step}
-use Rattle.formula_builder.specs.Inner.Held.{Store, held, size_of, side, Ready, Builds}
+use Rattle.formula_builder.specs.declared.NoRoom.{NoRoom}
+use Rattle.formula_builder.specs.Inner.Held.{Size, Step, Store, held, size_of, side, size_in, store_in, step_by, Ready, Builds, Same}
+use Rattle.images.specs.declared.ImageBuilder.{ImageBuilder}
 
 -- the source's formula rows
 unfoldable pub source_rows : Frame → List ℕ → List Row
@@ -34,15 +34,6 @@ pair_at frame formulas i left right or =
 unfoldable pub equivalent_at : Frame → List ℕ → ℕ → Bool → Build ℕ
 equivalent_at frame formulas i b =
     pair negated (pair_at frame formulas i false b false) (pair_at frame formulas i true (not b) false)
-
--- row 0 for false, row 1 for true; negated, the other way round
-abbrev pub constant_by : Polarity → ℕ → ℕ
-constant_by plain k = k
-constant_by negated k = 1 - k
-
--- a row without operands, from its words
-unfoldable pub leaf_built : ℕ → Polarity → Row → Build ℕ
-leaf_built n p w = cond (eqb w.kind 2) (literal n p w.a) (give (constant_by p w.kind))
 
 -- where the memo has formula i
 abbrev pub memo_place : Frame → Polarity → ℕ → ℕ
@@ -88,13 +79,40 @@ pub record Images (m : Build ℕ) (frame : Frame) (formulas : List ℕ) (at : Si
   pub memo : r.full ≡ false → Memo frame formulas scratch' (held (size_of r) after)
   pub rest : (j : ℕ) → 2 * frame.formulas ≤ j → get_or scratch' j 0 ≡ get_or scratch j 0
 
--- The same, by name, for the parts of compiling.
-pub record Reaches (m : Build ℕ) (frame : Frame) (formulas : List ℕ) (at : Size) (before after : Store) (scratch scratch' : List ℕ) (r : Step) : Type 0 where
-  pub images : Images m frame formulas at before after scratch scratch' r
+-- what a builder of images builds
+abbrev pub image_by : ImageBuilder → Polarity → ℕ → Build ℕ
+image_by b p i = image_at b.builder.frame b.formulas.now p i
 
--- a row without operands, and room for what it builds
-pub record LeafReady (frame : Frame) (at : Size) (s : Store) (w : Row) : Type 0 where
-  pub ready : Ready frame at s
-  pub kind : w.kind < 3
-  pub unused : w.kind ≡ 2 → w.b ≡ 0
-  pub variable : w.kind ≡ 2 → w.a < frame.variables
+abbrev pub pair_by : ImageBuilder → ℕ → Bool → Bool → Bool → Build ℕ
+pair_by b i left right or = pair_at b.builder.frame b.formulas.now i left right or
+
+abbrev pub equivalent_by : ImageBuilder → ℕ → Bool → Build ℕ
+equivalent_by b i not = equivalent_at b.builder.frame b.formulas.now i not
+
+-- what it asks: of what one began, where another stands
+abbrev pub AsksThere : ImageBuilder → ImageBuilder → ℕ → Type 0
+AsksThere b c i = Asks b.builder.frame b.formulas.now (size_in c.builder) (store_in c.builder) c.scratch.now i
+
+abbrev pub AsksImage : ImageBuilder → ℕ → Type 0
+AsksImage b i = AsksThere b b i
+
+abbrev pub AsksOperands : ImageBuilder → ℕ → Type 0
+AsksOperands b i = AsksPair b.builder.frame b.formulas.now (size_in b.builder) (store_in b.builder) b.scratch.now i
+
+-- A builder of images stays the same one: its formulas, and which scratch and tables it has.
+pub record SameImages (b c : ImageBuilder) : Type 0 where
+  pub builder : Same b.builder c.builder
+  pub formulas : c.formulas.now ≡ b.formulas.now
+  pub scratch : c.scratch.ghost_name ≡ b.scratch.ghost_name
+  pub scratch_length : length c.scratch.now ≡ length b.scratch.now
+
+-- A step, of what b began, from c to d.
+pub record Later (m : Build ℕ) (b c d : ImageBuilder) (r : Result ℕ NoRoom) : Type 0 where
+  pub images :
+      Images m b.builder.frame b.formulas.now (size_in c.builder) (store_in c.builder) (store_in d.builder) c.scratch.now d.scratch.now
+      (step_by d.builder r)
+  pub same : SameImages b d
+
+-- A step of a builder of images, and what it answers.
+abbrev pub Imaged : Build ℕ → (b c : ImageBuilder) → Result ℕ NoRoom → Type 0
+Imaged m b c r = Later m b b c r

@@ -4,9 +4,7 @@ use Rattle.task.specs.Table.{Lent, operator_width}
 use Rattle.task.specs.Rules.{LongEnough}
 use Rattle.task.specs.Words.{joined, padded}
 use Rattle.file_format.specs.Bytes.{word_bytes, head_fields}
-use Rattle.plan.specs.declared.outcome.RunOutcome.{RunOutcome}
-use Rattle.plan.specs.declared.outcome.End.{End}
-use Rattle.plan.specs.declared.outcome.End.TheVariants.{Ended, Stopped, Refused}
+use Rattle.plan.specs.Outcome.{End, Ended, Stopped, Refused, RunOutcome}
 use Rattle.layouts.specs.Layout.{low_bytes, flag}
 
 -- the layout of lent tables: their counted words, whatever stands behind them

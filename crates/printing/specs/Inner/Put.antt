@@ -41,17 +41,15 @@ tables_text h formulas effects operators =
     ++ (numbered 101 0 (upto h.effects (listed_at Effects effects))
     ++ numbered 111 0 (upto h.operators (listed_at Operators operators)))
 
--- What the digits of the first `count` bytes ask at a place.
-pub record BitsReady (at count : ℕ) (initial : List ℕ) : Type 0 where
-  pub room : at + count ≤ 1000000
-  pub long : count ≤ length initial
-  pub bits : (v : ℕ) → v < count → get_or initial v 0 ≤ 1
+-- What the digits of these bytes ask at a place.
+pub record BitsReady (at : ℕ) (initial : List ℕ) : Type 0 where
+  pub room : at + length initial ≤ 1000000
+  pub bits : (v : ℕ) → v < length initial → get_or initial v 0 ≤ 1
 
 -- What lines w ask.
-pub record TwinsReady (at first count : ℕ) (twins : List ℕ) : Type 0 where
-  pub room : at + 14 * count ≤ 1000000
-  pub long : count ≤ length twins
-  pub below : first + count ≤ 512
+pub record TwinsReady (at first : ℕ) (twins : List ℕ) : Type 0 where
+  pub room : at + 14 * length twins ≤ 1000000
+  pub below : first + length twins ≤ 512
 
 -- What the lines of a table of rows ask.
 pub record RowsReady (table : Table) (at count : ℕ) (words : List ℕ) : Type 0 where

@@ -1,5 +1,5 @@
 -- The places of the twins, by variable.
-use Rattle.std.specs.Prelude.{ℕ, ◌≤◌, ◌<◌, ◌≡◌, List, length, get_or, eqb, false}
+use Rattle.std.specs.Prelude.{ℕ, ◌≤◌, ◌<◌, ◌≡◌, List, length, get_or, eqb}
 use Rattle.normal_form.specs.Builder.{place}
 use Rattle.rule_writer.specs.declared.Chain.{Chain}
 
@@ -10,10 +10,6 @@ pub record PlacesReady (originals places : List ℕ) (v w : ℕ) : Type 0 where
   pub limit : w ≤ 512
   pub below : (k : ℕ) → k < w → get_or originals k 0 < v
 
--- no variable has a twin among w
-abbrev pub AllPast : (v w : ℕ) → List ℕ → Type 0
-AllPast v w places = (u : ℕ) → u < v → get_or places u 0 ≡ w
-
 -- Each of v variables has the place of its twin among these w; w if it has none.
 pub record Placed (v w : ℕ) (twins places : List ℕ) : Type 0 where
   pub many : length twins ≡ w
@@ -21,4 +17,4 @@ pub record Placed (v w : ℕ) (twins places : List ℕ) : Type 0 where
 
 -- A cleared table holds the empty effect alone; and the next operator begins with nothing of its own.
 abbrev pub begun : ℕ → Chain
-begun rows = record { rows = rows; stands = 0; full = false }
+begun rows = record { rows = rows; stands = 0 }

@@ -1,5 +1,5 @@
 -- What writing rules asks of the effect table, and what it leaves there: the rows of the definition, or that they do not fit.
-use Rattle.std.specs.Prelude.{ℕ, ◌+◌, ◌*◌, ◌≤◌, ◌<◌, ◌≡◌, Bool, true, false, not, cond, List, [], ◌∷◌, ◌++◌, length, get_or, ltb}
+use Rattle.std.specs.Prelude.{ℕ, ◌+◌, ◌*◌, ◌≤◌, ◌<◌, ◌≡◌, Bool, true, false, not, cond, List, [], ◌∷◌, ◌++◌, length, get_or, ltb, Result, MatchResult}
 use Rattle.task.specs.Semantics.{Atom, sets, clears}
 use Rattle.task.specs.Words.{words_of, padded}
 use Rattle.task.specs.Inner.Stored.{three}
@@ -67,28 +67,27 @@ pub record FrameReady (frame : Frame) (at : Chain) (table : List ℕ) : Type 0 w
 -- an operator's first rule, and a further one
 pub record First (room : ℕ) (at : Chain) (table : List ℕ) : Type 0 where
   pub ready : Ready room at table
-  pub unfilled : at.full ≡ false
   pub none : at.stands ≡ 0
 
 pub record Next (room : ℕ) (at : Chain) (table : List ℕ) : Type 0 where
   pub ready : Ready room at table
-  pub unfilled : at.full ≡ false
   pub some : at.stands ≡ 0 → ⊥
 
--- Rules are written behind whatever stands; or there is no room, and then what the definition gives does not fit. Once full, it stays so. Left open:
--- the table once it is full, since each caller then says so in its turn, up to `compile`, which leaves all tables 0 (`compiling`); and a table
--- that holds nothing written before, since the first rules go behind the empty effect (`Assembles`).
-pub record Writes (rs : List Rule) (room : ℕ) (at : Chain) (before after : List ℕ) (r : Chain) : Type 0 where
+-- These rules are written behind whatever stands.
+pub record Wrote (rs : List Rule) (room : ℕ) (at : Chain) (before after : List ℕ) (r : Chain) : Type 0 where
   pub ready : Ready room r after
-  pub stays : at.full ≡ true → r.full ≡ true
-  pub done : (w : Written) → Holds w at before → r.full ≡ false → Holds (write_rules w rs) r after
-  pub over :
-      (w : Written)
-      → Holds w at before
-      → at.full ≡ false
-      → r.full ≡ true
-      → length (write_rules w rs).rows ≤ room
-      → ⊥
+  pub done : (w : Written) → Holds w at before → Holds (write_rules w rs) r after
+
+-- There is no room for them.
+pub record Overfull (rs : List Rule) (room : ℕ) (at : Chain) (before : List ℕ) : Type 0 where
+  pub over : (w : Written) → Holds w at before → length (write_rules w rs).rows ≤ room → ⊥
+
+-- Rules are written behind whatever stands; or there is no room, and then what the definition gives does not fit. Left open: the table when there
+-- is no room, since each caller then says so in its turn, up to `compile`, which leaves all tables 0 (`compiling`); and a table that holds nothing
+-- written before, since the first rules go behind the empty effect (`Assembles`).
+abbrev pub Writes : {E : Type 0} → List Rule → ℕ → Chain → (before after : List ℕ) → Result Chain E → Type 0
+Writes rs room at before after r =
+    MatchResult r (λ chain. Wrote rs room at before after chain) (λ _. Overfull rs room at before)
 
 -- The initial values of v source variables and of w twins have room, and each twin's original is a source variable of value 0 or 1.
 pub record InitialReady (source originals out : List ℕ) (v w : ℕ) : Type 0 where

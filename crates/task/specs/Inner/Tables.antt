@@ -4,7 +4,7 @@ use Rattle.task.specs.declared.Head.{Head}
 use Rattle.task.specs.declared.Table.{Table}
 use Rattle.task.specs.declared.Table.TheVariants.{Formulas, Effects, Operators}
 use Rattle.task.specs.declared.TableRow.{TableRow}
-use Rattle.task.specs.Table.{Row, operator_width, operator, row_at, operator_at}
+use Rattle.task.specs.Table.{Row, Operator, operator_width, operator, row_at, operator_at}
 use Rattle.task.specs.Check.{unless, formula_kept, effect_kept, operator_number}
 use Rattle.task.specs.Inner.Stored.{three, operator_stored}
 
@@ -24,6 +24,13 @@ words_at Effects words i = in_order (row_at words i)
 words_at Operators words i =
     let o = operator_at words i in
     record { first = o.precondition; second = o.effect; third = o.cost; fourth = o.percent }
+
+-- an operator's words as a row, and a row's words as an operator
+abbrev pub operator_words_row : Operator → TableRow
+operator_words_row o = record { first = o.precondition; second = o.effect; third = o.cost; fourth = o.percent }
+
+abbrev pub words_operator : TableRow → Operator
+words_operator r = operator r.first r.second r.third r.fourth
 
 -- the words that a row of a table has
 abbrev pub listed : Table → TableRow → List ℕ

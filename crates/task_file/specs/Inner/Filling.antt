@@ -1,12 +1,10 @@
 -- Filling lent tables part by part: the words of each table, in the file's order.
-use Rattle.std.specs.Prelude.{ℕ, ◌-◌, ◌*◌, ◌≤◌, ◌≡◌, List, length, take, drop}
+use Rattle.std.specs.Prelude.{ℕ, ◌-◌, ◌*◌, ◌≤◌, List, length, take}
 use Rattle.task.specs.declared.Head.{Head}
 use Rattle.task.specs.declared.Table.TheVariants.{Formulas, Effects, Operators}
 use Rattle.task.specs.Table.{Task, operator_width}
 use Rattle.task.specs.Words.{words_of, operator_words}
-use Rattle.task_file.specs.declared.Place.{Place}
-use Rattle.task_file.specs.declared.Place.TheVariants.{At, Nowhere}
-use Rattle.file_format.specs.Parse.{Parsed, parsed, unparsed, next, table_read}
+use Rattle.file_format.specs.Parse.{Parsed, parsed, next, table_read}
 use Rattle.file_format.specs.Reading.{initial_read, twin_read}
 use Rattle.task_file.specs.Inner.Tables.{words_read}
 
@@ -52,25 +50,24 @@ all_words t =
           };
     }
 
-abbrev pub part_told : {A : Type 0} → List ℕ → A → Place → Parsed A
-part_told file x (At next) = parsed x (drop next file)
-part_told file x (Nowhere n) = unparsed n
+-- the words in front of lent tables
+abbrev pub rows_in : Head → (formulas effects operators : List ℕ) → RowTables
+rows_in h formulas effects operators =
+    record {
+      formulas = take (3 * h.formulas) formulas;
+      effects = take (3 * h.effects) effects;
+      operators = take (operator_width * h.operators) operators;
+    }
+
+abbrev pub all_in : Head → (initial twins formulas effects operators : List ℕ) → AllTables
+all_in h initial twins formulas effects operators =
+    record { initial = take h.variables initial; twins = take h.twins twins; rows = rows_in h formulas effects operators }
 
 -- the lent tables of rows are long enough
 pub record RowsRoom (h : Head) (formulas effects operators : List ℕ) : Type 0 where
   pub formulas_fit : 3 * h.formulas ≤ length formulas
   pub effects_fit : 3 * h.effects ≤ length effects
   pub operators_fit : operator_width * h.operators ≤ length operators
-
--- what filling the tables of rows leaves: words in front, and all behind them as it was. After a refusal the fronts are left open, since `read` then
--- clears every table (`read_outcome`); what is behind them is as it was all the same.
-pub record RowsFilled (h : Head) (file : List ℕ) (at : ℕ) (r : Place) (f e o f' e' o' : List ℕ) : Type 0 where
-  pub told :
-      part_told file (record { formulas = take (3 * h.formulas) f'; effects = take (3 * h.effects) e'; operators = take (operator_width * h.operators) o' }) r
-      ≡ rows_behind h (drop at file)
-  pub formulas_behind : drop (3 * h.formulas) f' ≡ drop (3 * h.formulas) f
-  pub effects_behind : drop (3 * h.effects) e' ≡ drop (3 * h.effects) e
-  pub operators_behind : drop (operator_width * h.operators) o' ≡ drop (operator_width * h.operators) o
 
 -- every lent table is long enough, and there are no more twins than variables, nor more variables than a task may have
 pub record AllRoom (h : Head) (initial twins formulas effects operators : List ℕ) : Type 0 where
@@ -79,25 +76,3 @@ pub record AllRoom (h : Head) (initial twins formulas effects operators : List �
   pub rows_fit : RowsRoom h formulas effects operators
   pub few_twins : h.twins ≤ h.variables
   pub few_variables : h.variables ≤ 512
-
--- what filling every table leaves; after a refusal the fronts are left open, as above
-pub record AllFilled (h : Head) (file : List ℕ) (at : ℕ) (r : Place) (i w f e o i' w' f' e' o' : List ℕ) : Type 0 where
-  pub told :
-      part_told file
-      (record {
-        initial = take h.variables i';
-        twins = take h.twins w';
-        rows =
-            record {
-              formulas = take (3 * h.formulas) f';
-              effects = take (3 * h.effects) e';
-              operators = take (operator_width * h.operators) o';
-            };
-      })
-      r
-      ≡ all_behind h (drop at file)
-  pub initial_behind : drop h.variables i' ≡ drop h.variables i
-  pub twins_behind : drop h.twins w' ≡ drop h.twins w
-  pub formulas_behind : drop (3 * h.formulas) f' ≡ drop (3 * h.formulas) f
-  pub effects_behind : drop (3 * h.effects) e' ≡ drop (3 * h.effects) e
-  pub operators_behind : drop (operator_width * h.operators) o' ≡ drop (operator_width * h.operators) o

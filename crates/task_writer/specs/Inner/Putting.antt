@@ -1,12 +1,12 @@
 -- Putting bytes into an output from a place on: what does not fit is only counted.
-use Rattle.std.specs.Prelude.{ℕ, ◌+◌, ◌*◌, ◌≤◌, ◌<◌, ◌≡◌, List, length, get_or}
+use Rattle.std.specs.Prelude.{ℕ, ◌+◌, ◌*◌, ◌^◌, ◌≤◌, ◌<◌, ◌≡◌, List, length, get_or}
 use Rattle.std.proofs.lemmas.List.Edits.{sets}
 use Rattle.task.specs.declared.Table.{Table}
 use Rattle.task.specs.declared.Table.TheVariants.{Formulas, Effects, Operators}
 use Rattle.task.specs.Bounded.{upto}
 use Rattle.task.specs.Table.{row_at, operator_at, Lent, operator}
 use Rattle.task.specs.Words.{joined}
-use Rattle.file_format.specs.Bytes.{number, row_bytes, operator_bytes}
+use Rattle.file_format.specs.Bytes.{row_bytes, operator_bytes}
 use Rattle.task.specs.Rules.{LongEnough}
 use Rattle.task.specs.declared.TableRow.{TableRow}
 use Rattle.task.specs.Inner.Tables.{width, words_at}
@@ -43,14 +43,20 @@ pub record RowsIn (table : Table) (words : List ℕ) (count at : ℕ) : Type 0 w
   pub room : at + 9 * count ≤ 1000000
   pub maps : (i : ℕ) → i < count → MapFits table (words_at table words i).first
 
--- a state whose first variables are bits
-pub record StateIn (state : List ℕ) (count : ℕ) : Type 0 where
-  pub fit : count ≤ length state
-  pub bits : (v : ℕ) → v < count → get_or state v 0 ≤ 1
+-- a state of bits
+pub record StateIn (state : List ℕ) : Type 0 where
+  pub bits : (v : ℕ) → v < length state → get_or state v 0 ≤ 1
 
--- byte j of a packed state
-unfoldable pub byte_number : List ℕ → ℕ → ℕ
-byte_number state j = number (upto 8 (λ k. get_or state (8 * j + k) 0))
+-- fields with a default each, no more than a byte has bits for
+pub record FieldsIn (defaults fields : List ℕ) : Type 0 where
+  pub same : length fields ≡ length defaults
+  pub few : length fields ≤ 6
+
+-- fields whose map fits a byte, with `high` above it
+pub record MappedIn (defaults fields : List ℕ) (at high : ℕ) : Type 0 where
+  pub place : at ≤ 1600000
+  pub each : FieldsIn defaults fields
+  pub fits : high + 2 ^ length defaults ≤ 256
 
 -- what tables that pass the check bring to the writer
 pub record WriteIn (l : Lent) : Type 0 where
@@ -60,6 +66,6 @@ pub record WriteIn (l : Lent) : Type 0 where
   pub formulas : l.head.formulas ≤ 4096
   pub effects : l.head.effects ≤ 4096
   pub operators : l.head.operators ≤ 256
-  pub state : StateIn l.initial l.head.variables
+  pub bits : (v : ℕ) → v < l.head.variables → get_or l.initial v 0 ≤ 1
   pub formula_maps : (i : ℕ) → i < l.head.formulas → MapFits Formulas (row_at l.formulas i).kind
   pub effect_maps : (i : ℕ) → i < l.head.effects → MapFits Effects (row_at l.effects i).kind

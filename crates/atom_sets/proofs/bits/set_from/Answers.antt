@@ -11,6 +11,4 @@ pub bounds-notes-k : goal.bounds-notes-k
 bounds-notes-k c = omega (arith, place_within c.requires.0, c.set_word-k.ensures, c.requires.1)
 
 pub returns : goal.returns
-returns c =
-    from_by c.args.frame c.args.notes.now c.args.v c.args.e c.set_word-k.result
-    c.set_word-k.ensures
+returns c = from_by c.args.frame c.args.notes.now c.args.v c.args.e c.set_word-k.result c.set_word-k.ensures

@@ -1,12 +1,8 @@
 -- `copy` meets its contract: the n words at i become those at a. Assumes nothing.
-use Prim.Native.Nat.{◌-◌, ◌%◌, ◌≤◌}
+use Prim.Native.Nat.{◌%◌, ◌≤◌}
 use mathlib.Core.Path.{◌≡◌}
-use lib.ListN.{length}
 use Rattle.atom_sets.specs.Inner.Finds.{copied, Written}
 use Rattle.atom_sets.proofs.pass.copy.Given as goal
 
 abbrev pub invariant-loop-k : goal.invariant-loop-k
-invariant-loop-k l = (l.k ≤ l.n) × (l.k % 4 ≡ 0) × (length l.notes ≡ length l.initial.notes) × Written l.k l.i (copied l.initial.notes l.a) l.initial.notes l.notes
-
-abbrev pub decreases-loop-k : goal.decreases-loop-k
-decreases-loop-k l = l.n - l.k
+invariant-loop-k l = (l.k ≤ l.n) × (l.k % 4 ≡ 0) × Written l.k l.i (copied l.initial.notes l.a) l.initial.notes l.notes

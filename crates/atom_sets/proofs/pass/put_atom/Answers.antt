@@ -1,17 +1,8 @@
 -- `put_atom` meets its contract: the word of variable v in the set of row i gets the one bit of set v, or of clear v. Assumes nothing.
 use native.Mathlib.Omega.{arith}
-use Rattle.atom_sets.proofs.Places.{place_within, byte_small}
+use Rattle.atom_sets.proofs.Places.{place_within}
 use Rattle.atom_sets.proofs.Finds.{put_by}
 use Rattle.atom_sets.proofs.pass.put_atom.Goals as goal
-
-pub overflow_add-bit : goal.overflow_add-bit
-overflow_add-bit c = omega (arith, byte_small c.args.clear)
-
-pub overflow_cast-notes : goal.overflow_cast-notes
-overflow_cast-notes c = omega (arith, byte_small c.args.clear)
-
-pub overflow_shl-notes : goal.overflow_shl-notes
-overflow_shl-notes c = omega (arith, byte_small c.args.clear)
 
 pub offset_bounds-notes-k : goal.offset_bounds-notes-k
 offset_bounds-notes-k c = omega (arith, place_within c.requires.0, c.set_word-k.ensures, c.well_formed)
@@ -21,5 +12,5 @@ bounds-notes-k c = omega (arith, place_within c.requires.0, c.set_word-k.ensures
 
 pub returns : goal.returns
 returns c =
-    put_by c.args.frame c.args.notes.now c.args.clear c.args.v
-    c.args.i c.set_word-k.result c.set_word-k.ensures
+    put_by c.args.frame c.args.notes.now c.args.clear c.args.v c.args.i c.set_word-k.result c.atom_bit.result
+    c.set_word-k.ensures c.atom_bit.ensures.0 c.atom_bit.ensures.1

@@ -2,10 +2,8 @@
 use Rattle.building.proofs.Begun.{no_beginning, beginning}
 use Rattle.building.proofs.taking.begin.Goals as goal
 
-pub returns-then-frame-lt2 : goal.returns-then-frame-lt2
-returns-then-frame-lt2 c =
-    no_beginning c.args.frame c.args.table.now c.if-frame-lt2.true c.no_room.ensures
+pub returns-then-most-lt2-clause-begun : goal.returns-then-most-lt2-clause-begun
+returns-then-most-lt2-clause-begun c = no_beginning c.args.b.now.frame c.args.b.now.table.now c.if-most-lt2.true
 
-pub returns : goal.returns
-returns c =
-    beginning c.args.frame c.args.table.now c.requires c.if-frame-lt2.false c.first_rows.ensures
+pub returns-clause-begun : goal.returns-clause-begun
+returns-clause-begun c = beginning c.args.b.now.frame c.args.b.now.table.now c.requires c.if-most-lt2.false c.first_rows.ensures

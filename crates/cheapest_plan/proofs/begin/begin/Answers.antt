@@ -13,10 +13,6 @@ raise-requires c =
       begin_nearly c.empty.ensures c.set_nodes.ensures c.requires.1 (omega (arith, c.requires.0, long)),
     )
 
-pub shape_of-words : goal.shape_of-words
-shape_of-words c =
-    c.raise.auto.words ∙ length-set c.set_nodes.new.words c.args.start 1 ∙ c.set_nodes.auto.words ∙ c.empty.auto.words
-
 pub returns : goal.returns
 returns c =
     let long = c.set_nodes.auto.words ∙ c.empty.auto.words in

@@ -1,36 +1,56 @@
 -- `replaces` meets its contract: the cost, the steps, the numbers and the goal decide. Assumes nothing.
+use mathlib.Core.Path.{sym, ◌∙◌}
+use mathlib.Core.Bool.{false≢true}
+use borrow.Author.Tests.{eqb-true, eqb-false}
 use Rattle.cheapest_plan.proofs.Ending.{other_cost, other_steps, ends_comparable, comes-behind, goal-decides}
 use Rattle.cheapest_plan.proofs.ends.replaces.Goals as goal
-
-pub returns-then-words-t : goal.returns-then-words-t
-returns-then-words-t c =
-    record { told = λ v. other_cost v c.requires.roomy.1 c.if-words-t.true }
-
-pub returns-then-words-n : goal.returns-then-words-n
-returns-then-words-n c =
-    record { told = λ v. other_steps v c.requires.roomy.1 c.if-words-n.true }
+use Rattle.cheapest_plan.proofs.ends.replaces.Goals.{then-words-t, else-words-t, then-words-n, else-words-n}
 
 pub precedes-requires : goal.precedes-requires
 precedes-requires c =
     let pre = c.requires in
-    (pre.roomy.0, ends_comparable pre.end_ready pre.roomy.1 c.if-words-t.false c.if-words-n.false)
+    elim c.if-words-t.branch [
+      | then-words-t w ↦ (pre.roomy.0, ends_comparable pre.end_ready pre.roomy.1 w.if-words-t.true (eqb-true _ _ (sym w.value-is ∙ c.if-words-n.true)))
+      | else-words-t w ↦ absurd (w.if-words-t.false (eqb-true _ _ (sym w.value-is ∙ c.if-words-n.true)))
+    ]
 
-pub returns-then-not-precedes : goal.returns-then-not-precedes
-returns-then-not-precedes c =
+pub returns-then-precedes : goal.returns-then-precedes
+returns-then-precedes c =
     let below = c.requires.roomy.1 in
-    let decided = c.precedes in
     record {
       told = λ v.
-          comes-behind v below c.if-words-t.false c.if-words-n.false (decided.ensures.told (ends_comparable v below c.if-words-t.false c.if-words-n.false))
-          c.if-not-precedes.true;
+          elim c.if-words-n.branch [
+            | then-words-n w ↦
+                elim c.if-words-t.branch [
+                  | then-words-t u ↦
+                      let steps = eqb-true _ _ (sym u.value-is ∙ w.if-words-n.true) in
+                      goal-decides v below u.if-words-t.true steps (w.precedes.ensures.told (ends_comparable v below u.if-words-t.true steps))
+                      (sym w.value-is ∙ c.if-precedes.true) c.is_goal.ensures
+                  | else-words-t u ↦ absurd (u.if-words-t.false (eqb-true _ _ (sym u.value-is ∙ w.if-words-n.true)))
+                ]
+            | else-words-n w ↦ absurd (false≢true (sym w.if-words-n.false ∙ (sym w.value-is ∙ c.if-precedes.true)))
+          ];
     }
 
-pub returns : goal.returns
-returns c =
+pub returns-else-precedes : goal.returns-else-precedes
+returns-else-precedes c =
     let below = c.requires.roomy.1 in
-    let decided = c.precedes in
-    record {
+    rw c.if-precedes.false
+    (record {
       told = λ v.
-          goal-decides v below c.if-words-t.false c.if-words-n.false (decided.ensures.told (ends_comparable v below c.if-words-t.false c.if-words-n.false))
-          c.if-not-precedes.false c.is_goal.ensures;
-    }
+          elim c.if-words-n.branch [
+            | then-words-n w ↦
+                elim c.if-words-t.branch [
+                  | then-words-t u ↦
+                      let steps = eqb-true _ _ (sym u.value-is ∙ w.if-words-n.true) in
+                      comes-behind v below u.if-words-t.true steps (w.precedes.ensures.told (ends_comparable v below u.if-words-t.true steps))
+                      (sym w.value-is ∙ c.if-precedes.false)
+                  | else-words-t u ↦ absurd (u.if-words-t.false (eqb-true _ _ (sym u.value-is ∙ w.if-words-n.true)))
+                ]
+            | else-words-n w ↦
+                elim c.if-words-t.branch [
+                  | then-words-t u ↦ other_steps v below (eqb-false _ _ (sym u.value-is ∙ w.if-words-n.false))
+                  | else-words-t u ↦ other_cost v below u.if-words-t.false
+                ]
+          ];
+    })

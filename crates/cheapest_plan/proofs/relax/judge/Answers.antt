@@ -9,7 +9,7 @@ use Rattle.cheapest_plan.proofs.relax.judge.Goals as goal
 pub returns-then-old-new : goal.returns-then-old-new
 returns-then-old-new c =
     let a = c.args in
-    let low : get_or a.words.now (a.n + a.t) 0 < 4294967296 = omega (arith, c.type_inv.words (a.n + a.t)) in
+    let low : get_or a.words.now (a.n + a.arrival.state) 0 < 4294967296 = omega (arith, c.type_inv.words (a.n + a.arrival.state)) in
     record {
       told = λ h. rw (c.joint-old.ensures, c.joint-new.ensures)
           (by_key h low (λ z. c.if-old-new.true (c.joint-old.ensures ∙ z ∙ sym c.joint-new.ensures)));
@@ -19,7 +19,7 @@ returns-then-old-new c =
 pub parent_of-requires-2 : goal.parent_of-requires-2
 parent_of-requires-2 c =
     let a = c.args in
-    let low : get_or a.words.now (a.n + a.t) 0 < 4294967296 = omega (arith, c.type_inv.words (a.n + a.t)) in
+    let low : get_or a.words.now (a.n + a.arrival.state) 0 < 4294967296 = omega (arith, c.type_inv.words (a.n + a.arrival.state)) in
     let tie-is = sym c.joint-old.ensures ∙ c.if-old-new.false ∙ c.joint-new.ensures in
     let pre = c.requires.1 in
     omega (arith, (old-parent pre (key_cost pre low tie-is) (key_steps pre low tie-is)).last-is)
@@ -27,7 +27,7 @@ parent_of-requires-2 c =
 pub compared-requires : goal.compared-requires
 compared-requires c =
     let a = c.args in
-    let low : get_or a.words.now (a.n + a.t) 0 < 4294967296 = omega (arith, c.type_inv.words (a.n + a.t)) in
+    let low : get_or a.words.now (a.n + a.arrival.state) 0 < 4294967296 = omega (arith, c.type_inv.words (a.n + a.arrival.state)) in
     let tie-is = sym c.joint-old.ensures ∙ c.if-old-new.false ∙ c.joint-new.ensures in
     let pre = c.requires.1 in
     (c.requires.0, pairs pre (key_cost pre low tie-is) (key_steps pre low tie-is) c.parent_of.ensures c.parent_of-2.ensures)
@@ -35,7 +35,7 @@ compared-requires c =
 pub returns : goal.returns
 returns c =
     let a = c.args in
-    let low : get_or a.words.now (a.n + a.t) 0 < 4294967296 = omega (arith, c.type_inv.words (a.n + a.t)) in
+    let low : get_or a.words.now (a.n + a.arrival.state) 0 < 4294967296 = omega (arith, c.type_inv.words (a.n + a.arrival.state)) in
     let tie-is = sym c.joint-old.ensures ∙ c.if-old-new.false ∙ c.joint-new.ensures in
     let found = c.compared.ensures in
     let left = c.parent_of.ensures in

@@ -7,10 +7,6 @@ pub loop-k-init : goal.loop-k-init
 loop-k-init c =
     (aside_begin c.args.steps c.args.plan.now, λ h. back_begin h c.args.plan.now)
 
-pub overflow_mul-step : goal.overflow_mul-step
-overflow_mul-step c =
-    omega (arith, c.requires.0, (c.loop-k.invariant.1 c.requires.1).there)
-
 pub overflow_add-step : goal.overflow_add-step
 overflow_add-step c =
     omega (arith, c.requires.0, (c.loop-k.invariant.1 c.requires.1).there)
@@ -23,26 +19,15 @@ pub bounds-words-n : goal.bounds-words-n
 bounds-words-n c =
     omega (arith, c.requires.0, (c.loop-k.invariant.1 c.requires.1).there)
 
-pub offset_bounds-plan-k : goal.offset_bounds-plan-k
-offset_bounds-plan-k c =
-    omega (arith, c.requires.2, c.loop-k.invariant.0, c.well_formed)
-
-pub bounds-plan-k : goal.bounds-plan-k
-bounds-plan-k c =
-    omega (arith, c.requires.2, c.loop-k.invariant.0)
-
 pub parent_of-s-requires : goal.parent_of-s-requires
 parent_of-s-requires c =
-    let at = c.loop-k in
-    let inv = at.invariant in
+    let inv = c.loop-k.invariant in
     let pre = c.requires in
-    let back = last_step pre.1 (inv.1 pre.1) (omega arith) inv.0.inside (omega (arith, pre.2, inv.0.long)) in
-    back.some
+    (last_step pre.1 (inv.1 pre.1) (omega arith) inv.0.inside (omega (arith, pre.2, inv.0.long))).some
 
 pub loop-k-preserved : goal.loop-k-preserved
 loop-k-preserved c =
-    let at = c.loop-k in
-    let inv = at.invariant in
+    let inv = c.loop-k.invariant in
     let pre = c.requires in (
       aside_on c.operator_of.result (omega arith) inv.0,
       λ h.
@@ -50,10 +35,7 @@ loop-k-preserved c =
           c.operator_of.ensures c.parent_of-s.ensures,
     )
 
-pub shape_of-plan : goal.shape_of-plan
-shape_of-plan c = c.loop-k.invariant.0.long
-
 pub returns : goal.returns
 returns c =
-    let at = c.loop-k in
-    record { front = λ h i l. (at.invariant.1 h).written i (omega arith) l; behind = at.invariant.0.behind }
+    let inv = c.loop-k.invariant in
+    record { front = λ h i l. (inv.1 h).written i (omega arith) l; behind = inv.0.behind }

@@ -6,6 +6,3 @@ use Rattle.cheapest_plan.proofs.writing.write_plan.Given as goal
 abbrev pub invariant-loop-k : goal.invariant-loop-k
 invariant-loop-k l =
     Aside l.k l.steps l.initial.plan l.plan × ((h : Writable l.n l.words l.state l.steps) → Back h l.k l.s l.plan)
-
-abbrev pub decreases-loop-k : goal.decreases-loop-k
-decreases-loop-k l = l.k

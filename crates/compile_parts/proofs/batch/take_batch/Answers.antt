@@ -1,67 +1,26 @@
 -- `take_batch` meets its contract: a batch begins, and its operators are taken in order. Assumes nothing.
 use native.Mathlib.Omega.{arith}
-use mathlib.Core.Path.{refl, ◌∙◌}
-use Rattle.compile_parts.proofs.Batched.{still_taken, next_asks}
+use Rattle.compile_parts.proofs.Batched.{batch_asks, taking_begins, operator_asks, taking-next, taking-stops, taking-ends}
 use Rattle.compile_parts.proofs.batch.take_batch.Goals as goal
 
-pub begin_next-end-requires : goal.begin_next-end-requires
-begin_next-end-requires c =
-    c.requires.begins
+pub next_batch-end-requires : goal.next_batch-end-requires
+next_batch-end-requires c = batch_asks c.requires
 
-pub loop-at-init : goal.loop-at-init
-loop-at-init c =
-    let begun = c.begin_next-end.ensures in
-    (omega (arith, begun.more), refl, refl, refl, refl, refl, still_taken c.requires begun, begun.along.leaves)
+pub loop-init : goal.loop-init
+loop-init c = taking_begins c.requires c.next_batch-end.ensures
 
-pub take_operator-at-requires : goal.take_operator-at-requires
-take_operator-at-requires c =
-    let so_far = c.loop-at.invariant in
-    next_asks c.requires so_far.7 (omega (arith, c.loop-at-test.true, c.begin_next-end.ensures.most)) so_far.5 so_far.6
+pub take_operator-requires : goal.take_operator-requires
+take_operator-requires c = operator_asks c.requires c.next_batch-end.ensures.most (omega arith) c.loop.invariant
 
-pub loop-at-smaller : goal.loop-at-smaller
-loop-at-smaller c =
-    omega (arith, c.take_operator-at.ensures.0.next)
+pub returns-in_err-at : goal.returns-in_err-at
+returns-in_err-at c =
+    taking-stops c.requires c.next_batch-end.ensures.most (omega arith) c.loop.invariant c.in_err-at.ensures.same c.from_residual.result c.from_residual.ensures.0
+    (omega arith) c.in_err-at.ensures.took
 
-pub loop-at-preserved : goal.loop-at-preserved
-loop-at-preserved c =
-    let so_far = c.loop-at.invariant in
-    let took = c.take_operator-at in (
-      omega (arith, took.ensures.0.next, c.loop-at-test.true),
-      took.auto.notes ∙ so_far.1,
-      took.auto.table ∙ so_far.2,
-      took.auto.originals ∙ so_far.3,
-      took.auto.scratch ∙ so_far.4,
-      took.auto.records ∙ so_far.5,
-      took.ensures.0.taken,
-      took.ensures.1,
-    )
-
-pub shape_of-notes : goal.shape_of-notes
-shape_of-notes c =
-    c.loop-at.invariant.1 ∙ c.begin_next-end.auto.notes
-
-pub shape_of-built : goal.shape_of-built
-shape_of-built c =
-    c.loop-at.invariant.2 ∙ c.begin_next-end.auto.built
-
-pub shape_of-originals : goal.shape_of-originals
-shape_of-originals c =
-    c.loop-at.invariant.3 ∙ c.begin_next-end.auto.originals
-
-pub shape_of-scratch : goal.shape_of-scratch
-shape_of-scratch c =
-    c.loop-at.invariant.4 ∙ c.begin_next-end.auto.scratch
-
-pub shape_of-records : goal.shape_of-records
-shape_of-records c = c.loop-at.invariant.5
+pub loop-preserved : goal.loop-preserved
+loop-preserved c =
+    taking-next c.requires c.next_batch-end.ensures.most (omega arith) c.loop.invariant c.in_ok-at.ensures.same _ c.in_ok-at.ensures.took c.in_ok-at.ensures.leaves
+    c.take_operator.auto.records
 
 pub returns : goal.returns
-returns c =
-    let so_far = c.loop-at.invariant in
-    let begun = c.begin_next-end.ensures in
-    record {
-      more = omega (arith, begun.more, c.loop-at-test.false);
-      most = omega (arith, begun.most, so_far.0);
-      taken = so_far.6;
-      leaves = so_far.7;
-    }
+returns c = taking-ends c.next_batch-end.ensures.more c.next_batch-end.ensures.most (omega arith) c.loop.invariant

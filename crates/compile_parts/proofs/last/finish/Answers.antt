@@ -1,55 +1,43 @@
 -- `finish` meets its contract: rules and operators, initial values, and the rows that were built. Assumes nothing.
-use native.Mathlib.Omega.{arith}
-use mathlib.Core.Path.{refl}
-use Rattle.compile_parts.proofs.Written.{nothing_built, rules_over, all_written}
+use Rattle.std.proofs.Common.{rules, ℕ, ◌*◌, ◌≡◌, List, ◌++◌, take, drop}
+use mathlib.Core.Path.{refl, ap}
+use Rattle.std.specs.Prelude.{Result, Ok, Err}
+use Rattle.std.specs.Result.{IsErrAnd}
+use Rattle.formula_builder.specs.Inner.Held.{Step}
+use Rattle.compile_parts.specs.declared.Counts.{Counts}
+use Rattle.compile_parts.specs.declared.Filled.{Filled}
+use Rattle.compile_parts.specs.Inner.Finishes.{Outputs, Lacks, Finished}
 use Rattle.compile_parts.proofs.last.finish.Goals as goal
 
-pub returns-then-whole : goal.returns-then-whole
-returns-then-whole c = nothing_built c.if-whole.true c.no_room.ensures
+-- no room that `?` returns onward
+onward :
+    {E : Type 0} {k : Counts} {w : Step} {operators originals records : List ℕ} {x y : Outputs} (initial built : List ℕ) (r : Result Filled E) (e : E)
+    → IsErrAnd r (λ z. z ≡ e)
+    → Lacks k w operators originals records x y
+    → Finished k w initial operators originals built records x y r
+onward initial built (Ok z) e given lacks = absurd given
+onward initial built (Err z) e given lacks = lacks
 
-pub assemble_operators-rules-requires : goal.assemble_operators-rules-requires
-assemble_operators-rules-requires c =
-    let stands = c.requires.stands c.if-whole.false in
-    (stands.assembles, stands.twinned)
+pub assemble_operators-requires : goal.assemble_operators-requires
+assemble_operators-requires c = (c.requires.assembles, c.requires.twinned)
 
-pub returns-then-rules : goal.returns-then-rules
-returns-then-rules c = rules_over c.assemble_operators-rules.ensures c.if-rules.true c.no_room-then-rules.ensures
-
-pub write_initial-requires : goal.write_initial-requires
-write_initial-requires c =
-    (c.requires.stands c.if-whole.false).initial_ready
-
-pub overflow_mul-whole : goal.overflow_mul-whole
-overflow_mul-whole c =
-    omega (arith, (c.requires.stands c.if-whole.false).limit)
-
-pub copy_words-requires : goal.copy_words-requires
-copy_words-requires c =
-    let stands = c.requires.stands c.if-whole.false in
-    (stands.there, stands.space)
-
-pub overflow_cast-result : goal.overflow_cast-result
-overflow_cast-result c =
-    omega (arith, (c.requires.stands c.if-whole.false).limit)
-
-pub overflow_cast-result-2 : goal.overflow_cast-result-2
-overflow_cast-result-2 c =
-    omega (arith, (c.requires.stands c.if-whole.false).assembles.variables)
-
-pub overflow_cast-result-3 : goal.overflow_cast-result-3
-overflow_cast-result-3 c =
-    omega
-    (arith, c.assemble_operators-rules.ensures.within c.if-rules.false, (c.requires.stands c.if-whole.false).assembles.rows_limit)
+pub returns-in_err-effects : goal.returns-in_err-effects
+returns-in_err-effects c =
+    onward c.args.initial.now c.args.b.now.table.now c.from_residual.result c.in_err-effects.field-0.0 c.from_residual.ensures.1
+    (record { misfit = λ fits. c.in_err-effects.ensures fits; values = refl; table = refl; twins = refl })
 
 pub returns : goal.returns
 returns c =
-    let rules = c.assemble_operators-rules.ensures in
-    all_written refl
-    (record {
-      whole = c.if-whole.false;
-      holding = rules.done c.if-rules.false;
-      within = rules.within c.if-rules.false;
+    let b = c.args.b.now in
+    let made = c.in_ok-effects.ensures in
+    let words = 3 * b.rows in
+    let copied : c.copy_from_slice.new.self ≡ take words b.table.now = search rules in
+    let twins : c.copy_from_slice-2.new.self ≡ take b.twins b.originals.now = search rules in
+    record {
+      holding = made.done;
+      within = made.within;
       values = c.write_initial.ensures;
-      table = c.copy_words.ensures;
+      table = ap (λ (front : List ℕ). front ++ drop words c.args.table.now) copied;
+      twins = ap (λ (front : List ℕ). front ++ drop b.twins c.args.originals.now) twins;
       answer = refl;
-    })
+    }

@@ -1,93 +1,44 @@
 -- `build` meets its contract: sets and first operators are found, then begin, the operators batch by batch, and the goal. Assumes nothing.
 use native.Mathlib.Omega.{arith}
-use mathlib.Core.Path.{refl, ◌∙◌}
-use Rattle.variable_changes.proofs.Standing.{leaves_same}
-use Rattle.compile_parts.proofs.Asked.{finds, finds_first, known, none_kept, noted, first_taken, next_batch, last_asks, all_built}
+use mathlib.Core.Path.{refl}
+use Rattle.compile_parts.proofs.Asked.{finds, finds_first, known}
+use Rattle.compile_parts.proofs.Parted.{begins_over, building_begins, batch_takes, building_next, building_over, all_built}
 use Rattle.compile_parts.proofs.whole.build.Goals as goal
 
 pub find_sets-requires : goal.find_sets-requires
-find_sets-requires c =
-    finds c.requires
+find_sets-requires c = finds c.requires
 
 pub find_first-requires : goal.find_first-requires
-find_first-requires c =
-    finds_first c.requires
+find_first-requires c = finds_first c.requires
 
-pub begin-at-requires : goal.begin-at-requires
-begin-at-requires c =
-    c.requires.fresh
+pub returns-in_err-at-clause-from_start : goal.returns-in_err-at-clause-from_start
+returns-in_err-at-clause-from_start c =
+    begins_over c.args.b.now c.requires c.begin.new.b c.from_residual.result c.from_residual.ensures.0 c.in_err-at.ensures.begun
 
 pub loop-at-init : goal.loop-at-init
 loop-at-init c =
-    let asked = c.requires in
-    let sets = c.find_sets in
-    let begun = c.begin-at.ensures in
-    let found = noted asked sets.ensures sets.auto.notes _ in (
-      omega (arith, begun.none),
-      refl,
-      refl,
-      refl,
-      refl,
-      refl,
-      first_taken asked begun,
-      leaves_same found,
-      λ _. none_kept asked sets.ensures sets.auto.notes,
-    )
+    building_begins c.args.b.now c.requires
+    (record {
+      images = record { builder = c.in_ok-at.ensures.same; formulas = refl; scratch = refl; scratch_length = refl };
+      effects = refl;
+      notes = refl;
+      notes_length = c.find_sets.auto.notes;
+    })
+    c.find_sets.ensures c.in_ok-at.ensures.begun c.in_ok-at.ensures.originals refl
 
-pub take_batch-at-requires : goal.take_batch-at-requires
-take_batch-at-requires c =
-    let so_far = c.loop-at.invariant in
-    let asked = c.requires in
-    let firsts = c.find_first in
-    next_batch asked (known asked firsts.ensures firsts.auto.first) c.loop-at-test.true (so_far.3 ∙ c.find_sets.auto.notes)
-    so_far.5 so_far.6 so_far.7 so_far.8
-
-pub loop-at-smaller : goal.loop-at-smaller
-loop-at-smaller c =
-    omega (arith, c.take_batch-at.ensures.more, c.loop-at-test.true)
+pub take_batch-requires : goal.take_batch-requires
+take_batch-requires c =
+    batch_takes c.args.b.now c.requires c.loop-at.invariant (known c.requires c.find_first.ensures c.find_first.auto.first) c.loop-at-test.true
 
 pub loop-at-preserved : goal.loop-at-preserved
 loop-at-preserved c =
-    let so_far = c.loop-at.invariant in
-    let took = c.take_batch-at in (
-      took.ensures.most,
-      took.auto.originals ∙ so_far.1,
-      took.auto.scratch ∙ so_far.2,
-      took.auto.notes ∙ so_far.3,
-      took.auto.built ∙ so_far.4,
-      took.auto.records ∙ so_far.5,
-      took.ensures.taken,
-      took.ensures.leaves,
-      λ z. absurd (omega (arith, z, took.ensures.more)),
-    )
+    building_next c.args.b.now c.requires c.loop-at.invariant c.in_ok-at-2.ensures c.take_batch.auto.records
 
-pub take_goal-requires : goal.take_goal-requires
-take_goal-requires c =
-    let so_far = c.loop-at.invariant in
-    last_asks c.requires (omega (arith, so_far.0, c.loop-at-test.false)) so_far.6
+pub returns-in_err-at-2-clause-from_start : goal.returns-in_err-at-2-clause-from_start
+returns-in_err-at-2-clause-from_start c =
+    building_over c.args.b.now c.requires c.loop-at.invariant c.from_residual-in_err-at-2.result c.from_residual-in_err-at-2.ensures.0 c.in_err-at-2.ensures
 
-pub shape_of-originals : goal.shape_of-originals
-shape_of-originals c =
-    c.take_goal.auto.originals ∙ c.loop-at.invariant.1
-
-pub shape_of-scratch : goal.shape_of-scratch
-shape_of-scratch c =
-    c.take_goal.auto.scratch ∙ c.loop-at.invariant.2
-
-pub shape_of-notes : goal.shape_of-notes
-shape_of-notes c =
-    c.loop-at.invariant.3 ∙ c.find_sets.auto.notes
-
-pub shape_of-built : goal.shape_of-built
-shape_of-built c =
-    c.take_goal.auto.table ∙ c.loop-at.invariant.4 ∙ c.begin-at.auto.table
-
-pub shape_of-records : goal.shape_of-records
-shape_of-records c =
-    c.loop-at.invariant.5
-
-pub returns : goal.returns
-returns c =
-    let so_far = c.loop-at.invariant in
-    let goal = c.take_goal in
-    all_built c.requires (omega (arith, so_far.0, c.loop-at-test.false)) so_far.6 goal.auto.scratch goal.ensures
+pub returns-clause-from_start : goal.returns-clause-from_start
+returns-clause-from_start c =
+    let i = c.loop-at.invariant in
+    all_built c.args.b.now c.requires i (omega (arith, i.some, c.loop-at-test.false)) c.image.ensures

@@ -1,104 +1,35 @@
 -- `fill` meets its contract: for a small source the small frame first, else the large one. Assumes nothing.
-use mathlib.Core.Path.{◌∙◌}
-use Rattle.compiler.proofs.Tried.{small_asks, tried, large-asks, filled-again}
+use mathlib.Core.Path.{◌≡◌, sym, ◌∙◌}
+use Rattle.task.specs.Lending.{lent_tables}
+use Rattle.compiler.specs.Tables.{tables}
+use Rattle.compiler.proofs.Owned.{small_enough, large_enough}
+use Rattle.compiler.proofs.Tried.{same_tables, kept, answered}
 use Rattle.compiler.proofs.frames.fill.Goals as goal
+use Rattle.compiler.proofs.frames.fill.Goals.{then-is_small+else-is_ok, else-is_small}
 
-pub fill_small-small-requires : goal.fill_small-small-requires
-fill_small-small-requires c =
-    small_asks c.fewer_rows.ensures c.is_small.ensures c.if-is_small.true c.requires
+pub fill_in-small-requires : goal.fill_in-small-requires
+fill_in-small-requires c =
+    rw c.fewer_rows.ensures
+    (small_enough (lent_tables c.args.source.now) c.is_small.ensures c.if-is_small.true c.requires.begins)
 
-pub fill_large-requires : goal.fill_large-requires
-fill_large-requires c =
-    let few = c.fewer_rows.ensures in
-    let try = c.fill_small-small.ensures in
-    large-asks few try c.if-small.true c.requires
-
-pub shape_of-values-then-small : goal.shape_of-values-then-small
-shape_of-values-then-small c =
-    c.fill_large.auto.values ∙ c.fill_small-small.auto.values
-
-pub shape_of-originals-then-small : goal.shape_of-originals-then-small
-shape_of-originals-then-small c =
-    c.fill_large.auto.originals ∙ c.fill_small-small.auto.originals
-
-pub shape_of-table-then-small : goal.shape_of-table-then-small
-shape_of-table-then-small c =
-    c.fill_large.auto.table ∙ c.fill_small-small.auto.table
-
-pub shape_of-out-then-small : goal.shape_of-out-then-small
-shape_of-out-then-small c =
-    c.fill_large.auto.out ∙ c.fill_small-small.auto.out
-
-pub shape_of-written-then-small : goal.shape_of-written-then-small
-shape_of-written-then-small c =
-    c.fill_large.auto.written ∙ c.fill_small-small.auto.written
-
-pub shape_of-scratch-then-small : goal.shape_of-scratch-then-small
-shape_of-scratch-then-small c =
-    c.fill_large.auto.scratch ∙ c.fill_small-small.auto.scratch
-
-pub returns-then-small : goal.returns-then-small
-returns-then-small c =
-    let few = c.fewer_rows.ensures in
-    let try = c.fill_small-small.ensures in
-    filled-again few try c.if-small.true c.requires c.fill_large.ensures
-
-pub shape_of-values-then-is_small : goal.shape_of-values-then-is_small
-shape_of-values-then-is_small c =
-    c.fill_small-small.auto.values
-
-pub shape_of-originals-then-is_small : goal.shape_of-originals-then-is_small
-shape_of-originals-then-is_small c =
-    c.fill_small-small.auto.originals
-
-pub shape_of-table-then-is_small : goal.shape_of-table-then-is_small
-shape_of-table-then-is_small c =
-    c.fill_small-small.auto.table
-
-pub shape_of-out-then-is_small : goal.shape_of-out-then-is_small
-shape_of-out-then-is_small c =
-    c.fill_small-small.auto.out
-
-pub shape_of-written-then-is_small : goal.shape_of-written-then-is_small
-shape_of-written-then-is_small c =
-    c.fill_small-small.auto.written
-
-pub shape_of-scratch-then-is_small : goal.shape_of-scratch-then-is_small
-shape_of-scratch-then-is_small c =
-    c.fill_small-small.auto.scratch
-
-pub returns-then-is_small : goal.returns-then-is_small
-returns-then-is_small c =
-    tried c.fewer_rows.ensures c.fill_small-small.ensures c.if-small.false
-
-pub fill_large-requires-2 : goal.fill_large-requires-2
-fill_large-requires-2 c =
-    c.requires
-
-pub shape_of-values : goal.shape_of-values
-shape_of-values c =
-    c.fill_large-2.auto.values
-
-pub shape_of-originals : goal.shape_of-originals
-shape_of-originals c =
-    c.fill_large-2.auto.originals
-
-pub shape_of-table : goal.shape_of-table
-shape_of-table c =
-    c.fill_large-2.auto.table
-
-pub shape_of-out : goal.shape_of-out
-shape_of-out c =
-    c.fill_large-2.auto.out
-
-pub shape_of-written : goal.shape_of-written
-shape_of-written c =
-    c.fill_large-2.auto.written
-
-pub shape_of-scratch : goal.shape_of-scratch
-shape_of-scratch c =
-    c.fill_large-2.auto.scratch
+pub fill_in-requires : goal.fill_in-requires
+fill_in-requires c =
+    let unchanged : tables c.if-is_small.values c.if-is_small.originals c.if-is_small.table c.if-is_small.out c.if-is_small.written c.if-is_small.scratch ≡ tables c.args.values.now c.args.originals.now c.args.table.now c.args.out.now c.args.written.now c.args.scratch.now =
+    elim c.if-is_small.branch [
+      | then-is_small+else-is_ok w ↦
+          same_tables w.values-is w.originals-is w.table-is w.out-is w.written-is w.scratch-is
+          ∙ kept _ w.fill_in-small.result (sym w.is_ok.ensures.value ∙ w.if-is_ok.false) w.fill_in-small.ensures
+      | else-is_small w ↦ same_tables w.values-is w.originals-is w.table-is w.out-is w.written-is w.scratch-is
+    ] in
+    rw unchanged (large_enough c.requires.begins)
 
 pub returns : goal.returns
 returns c =
-    c.fill_large-2.ensures
+    let unchanged : tables c.if-is_small.values c.if-is_small.originals c.if-is_small.table c.if-is_small.out c.if-is_small.written c.if-is_small.scratch ≡ tables c.args.values.now c.args.originals.now c.args.table.now c.args.out.now c.args.written.now c.args.scratch.now =
+    elim c.if-is_small.branch [
+      | then-is_small+else-is_ok w ↦
+          same_tables w.values-is w.originals-is w.table-is w.out-is w.written-is w.scratch-is
+          ∙ kept _ w.fill_in-small.result (sym w.is_ok.ensures.value ∙ w.if-is_ok.false) w.fill_in-small.ensures
+      | else-is_small w ↦ same_tables w.values-is w.originals-is w.table-is w.out-is w.written-is w.scratch-is
+    ] in
+    answered _ c.fill_in.result unchanged c.requires c.fill_in.ensures

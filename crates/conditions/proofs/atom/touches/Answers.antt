@@ -8,9 +8,7 @@ returns-then-w-t c =
     touch_other c.args.t.clear c.args.t.variable c.args.w.a (effect_kind c.args.w.kind) c.if-w-t.true
 
 pub returns-then-t : goal.returns-then-t
-returns-then-t c =
-    rw c.if-t.true (touch_clear c.args.t.variable c.args.w.a c.args.w.kind c.if-w-t.false)
+returns-then-t c = rw c.if-t.true (touch_clear c.args.t.variable c.args.w.a c.args.w.kind c.if-w-t.false)
 
-pub returns : goal.returns
-returns c =
-    rw c.if-t.false (touch_set c.args.t.variable c.args.w.a c.args.w.kind c.if-w-t.false)
+pub returns-else-t : goal.returns-else-t
+returns-else-t c = rw c.if-t.false (touch_set c.args.t.variable c.args.w.a c.args.w.kind c.if-w-t.false)

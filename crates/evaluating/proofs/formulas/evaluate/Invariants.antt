@@ -1,10 +1,6 @@
 -- `evaluate` leaves the values of the rows passed, from the laws of Valuing. Assumes nothing.
-use Prim.Native.Nat.{◌-◌}
 use Rattle.evaluating.proofs.Valuing.{Evaluating}
 use Rattle.evaluating.proofs.formulas.evaluate.Given as goal
 
 abbrev pub invariant-loop-i : goal.invariant-loop-i
 invariant-loop-i l = Evaluating l.formulas l.to l.state l.initial.scratch l.i l.scratch
-
-abbrev pub decreases-loop-i : goal.decreases-loop-i
-decreases-loop-i l = l.to - l.i

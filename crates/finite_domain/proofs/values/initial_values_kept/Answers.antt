@@ -1,29 +1,17 @@
 -- `initial_values_kept` meets its contract: whether each initial value is below its variable's count. Assumes nothing.
-use native.Mathlib.Omega.{arith}
-use Rattle.task.proofs.Bounded.{every_none, every_more, every_stops, every_ends}
-use Rattle.finite_domain.proofs.Ways.{value_outside, value_inside}
+use Rattle.std.proofs.Common.{◌≡◌, true, false, ◌∙◌, rules}
+use Rattle.std.specs.List.{zip}
+use Rattle.std.proofs.lemmas.Iterator.{cases_from_all, YieldsList-from_slice, YieldsList-from_zip}
+use borrow.Author.Tests.{tests}
+use Rattle.finite_domain.proofs.Ways.{below, every_item, every_value}
 use Rattle.finite_domain.proofs.values.initial_values_kept.Goals as goal
 
-pub loop-a-init : goal.loop-a-init
-loop-a-init c = (omega arith, every_none _)
-
-pub offset_bounds-counts-a : goal.offset_bounds-counts-a
-offset_bounds-counts-a c = omega (arith, c.well_formed, c.requires)
-
-pub bounds-counts-a : goal.bounds-counts-a
-bounds-counts-a c = omega (arith, c.requires)
-
-pub offset_bounds-initial-a : goal.offset_bounds-initial-a
-offset_bounds-initial-a c = omega (arith, c.well_formed, c.requires)
-
-pub bounds-initial-a : goal.bounds-initial-a
-bounds-initial-a c = omega (arith, c.requires)
-
-pub returns-then-counts-a : goal.returns-then-counts-a
-returns-then-counts-a c = every_stops _ _ _ c.loop-a-test.true (value_outside _ _ _ c.if-counts-a.true)
-
-pub loop-a-preserved : goal.loop-a-preserved
-loop-a-preserved c = (omega arith, every_more _ _ c.loop-a.invariant.1 (value_inside _ _ _ c.if-counts-a.false))
-
 pub returns : goal.returns
-returns c = every_ends _ _ _ c.loop-a.invariant.0 c.loop-a-test.false c.loop-a.invariant.1
+returns c =
+    let counts = c.args.counts.now in
+    let initial = c.args.initial.now in
+    every_item (zip initial counts) (0, 0) below c.all.result
+    (cases_from_all c.all.new.self _ _ (λ p. below p ≡ true) (λ p. below p ≡ false) c.all.ensures.ran
+    (YieldsList-from_zip (YieldsList-from_slice initial cc) (YieldsList-from_slice counts cc))
+    (λ x q k. search (rules, tests)) (λ x q k. search (rules, tests)))
+    ∙ every_value counts initial c.requires

@@ -1,31 +1,26 @@
--- `refused_run` meets its contract: 0, or the first in order: 16, 19, 20. Assumes nothing.
-use Rattle.layouts.proofs.RunWays.{wrong_length, wrong_bits, half-number, too_many, no_room, none_refused}
+-- `refused_run` meets its contract: the first in order, 16, 19, 20. Assumes nothing.
+use Rattle.task.proofs.Refusals.{number_some}
+use Rattle.task.proofs.Told.{returned}
+use Rattle.layouts.proofs.RunWays.{refused_16, refused_19, refused_20}
 use Rattle.layouts.proofs.numbers.refused_run.Goals as goal
 
-pub returns-then-state-variables : goal.returns-then-state-variables
-returns-then-state-variables c = let a = c.args in wrong_length a.variables a.state.now a.sequence.now a.room c.if-state-variables.true
+pub returns-in_err-refuse_unless : goal.returns-in_err-refuse_unless
+returns-in_err-refuse_unless c =
+    let a = c.args in
+    let e = c.in_err-refuse_unless.field-0.0 in
+    returned c.from_residual.result e _ c.from_residual.ensures.1
+    (refused_16 a.variables a.state.now a.sequence.now a.room c.state_kept.ensures c.in_err-refuse_unless.ensures (number_some e))
 
-pub returns-then-not-bits : goal.returns-then-not-bits
-returns-then-not-bits c =
-    let a = c.args in wrong_bits a.variables a.state.now a.sequence.now a.room c.if-state-variables.false c.bits.ensures
-    c.if-not-bits.true
-
-pub returns-then-sequence-ne0 : goal.returns-then-sequence-ne0
-returns-then-sequence-ne0 c =
-    let a = c.args in half-number a.variables a.state.now a.sequence.now a.room c.if-state-variables.false c.bits.ensures
-    c.if-not-bits.false c.if-sequence-ne0.true
-
-pub returns-then-sequence-gt65535 : goal.returns-then-sequence-gt65535
-returns-then-sequence-gt65535 c =
-    let a = c.args in too_many a.variables a.state.now a.sequence.now a.room c.if-state-variables.false c.bits.ensures
-    c.if-not-bits.false c.if-sequence-ne0.false c.if-sequence-gt65535.true
-
-pub returns-then-room-lt16 : goal.returns-then-room-lt16
-returns-then-room-lt16 c =
-    let a = c.args in no_room a.variables a.state.now a.sequence.now a.room c.if-state-variables.false c.bits.ensures
-    c.if-not-bits.false c.if-sequence-ne0.false c.if-sequence-gt65535.false c.if-room-lt16.true
+pub returns-in_err-refuse_unless-2 : goal.returns-in_err-refuse_unless-2
+returns-in_err-refuse_unless-2 c =
+    let a = c.args in
+    let e = c.in_err-refuse_unless-2.field-0.0 in
+    returned c.from_residual-in_err-refuse_unless-2.result e _ c.from_residual-in_err-refuse_unless-2.ensures.1
+    (refused_19 a.variables a.state.now a.sequence.now a.room c.state_kept.ensures c.in_ok-refuse_unless.ensures c.sequence_kept.ensures
+    c.in_err-refuse_unless-2.ensures (number_some e))
 
 pub returns : goal.returns
 returns c =
-    let a = c.args in none_refused a.variables a.state.now a.sequence.now a.room c.if-state-variables.false c.bits.ensures
-    c.if-not-bits.false c.if-sequence-ne0.false c.if-sequence-gt65535.false c.if-room-lt16.false
+    let a = c.args in
+    refused_20 a.variables a.state.now a.sequence.now a.room c.state_kept.ensures c.in_ok-refuse_unless.ensures c.sequence_kept.ensures
+    c.in_ok-refuse_unless-2.ensures c.refuse_unless-3.ensures

@@ -1,12 +1,10 @@
--- `asked` reads the precondition of the operator, if it is there. Assumes nothing.
+-- `asked` is the operator of the task, by the laws of Taking. Assumes nothing.
 use mathlib.Core.Path.{◌∙◌}
-use Rattle.operator_step.proofs.Taking.{none_asked, one_asked}
+use Rattle.operator_step.proofs.Taking.{operator_none, operator_there}
 use Rattle.operator_step.proofs.operator.asked.Goals as goal
 
-pub returns-then-count-number : goal.returns-then-count-number
-returns-then-count-number c = none_asked _ _ _ c.if-count-number.true
+pub returns-then-tables-number : goal.returns-then-tables-number
+returns-then-tables-number c = operator_none _ _ c.if-tables-number.true
 
 pub returns : goal.returns
-returns c =
-    let a = c.args in
-    c.precondition_of.ensures ∙ one_asked a.operators.now a.count a.number c.if-count-number.false
+returns c = c.operator_at.ensures ∙ operator_there _ _ c.if-tables-number.false

@@ -5,7 +5,7 @@ use Rattle.operators.proofs.Walks.{looks_at}
 use Rattle.operators.proofs.walk.next_touched.Goals as goal
 
 pub loop-v-init : goal.loop-v-init
-loop-v-init c = searching_none c.args.frame c.args.notes.now c.args.e c.args.from
+loop-v-init c = searching_none c.args.b.now.images.builder.frame c.args.b.now.notes.now c.args.e c.args.from
 
 pub passed_at-k-requires : goal.passed_at-k-requires
 passed_at-k-requires c = (looks_at c.requires c.loop-v-test.true, c.requires.words)

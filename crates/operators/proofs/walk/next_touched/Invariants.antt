@@ -4,7 +4,7 @@ use Rattle.operators.proofs.Passing.{Searching}
 use Rattle.operators.proofs.walk.next_touched.Given as goal
 
 abbrev pub invariant-loop-v : goal.invariant-loop-v
-invariant-loop-v l = Searching l.frame l.notes l.e l.from l.v
+invariant-loop-v l = Searching l.frame l.b.notes.now l.e l.from l.v
 
 abbrev pub decreases-loop-v : goal.decreases-loop-v
-decreases-loop-v l = l.n - l.v
+decreases-loop-v l = l.frame.variables - l.v

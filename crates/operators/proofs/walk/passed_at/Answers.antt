@@ -12,7 +12,7 @@ returns-then-rest-eq0-2 c =
     let a = c.args in passes_one a.frame a.notes.now a.e a.v c.set_from-rest.result c.set_from-rest.ensures
     c.if-rest-eq0-2.true
 
-pub returns : goal.returns
-returns c =
+pub returns-else-rest-eq0-2 : goal.returns-else-rest-eq0-2
+returns-else-rest-eq0-2 c =
     let a = c.args in passes_none a.frame a.notes.now a.e a.v c.set_from-rest.result c.set_from-rest.ensures
     c.if-rest-eq0-2.false

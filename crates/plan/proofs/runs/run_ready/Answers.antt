@@ -1,63 +1,36 @@
 -- `run_ready` goes on as the plain run does, each turn and each end by a law of Running. Assumes nothing.
 use native.Mathlib.Omega.{arith}
 use mathlib.Core.Path.{refl, ◌∙◌}
+use Rattle.task.proofs.Refusals.{number_some}
 use Rattle.operator_step.proofs.Taking.{valuable, goal_told, ready_again}
 use Rattle.plan.proofs.Running.{starts, one_more, after_ready, stopped_run, ended_run}
 use Rattle.plan.proofs.runs.run_ready.Goals as goal
 
-pub loop-steps-init : goal.loop-steps-init
-loop-steps-init c = (omega arith, refl, refl, starts c.requires.ready.state)
-
-pub offset_bounds-sequence-steps : goal.offset_bounds-sequence-steps
-offset_bounds-sequence-steps c = omega (arith, c.well_formed)
-
-pub take-taken-requires : goal.take-taken-requires
-take-taken-requires c =
-    ready_again c.requires.ready c.loop-steps.invariant.3.state c.loop-steps.invariant.2
+pub loop-number-init : goal.loop-number-init
+loop-number-init c = (refl, starts c.requires.ready.state)
 
 pub holds-there-requires : goal.holds-there-requires
 holds-there-requires c =
+    let g = c.loop-number.invariant in
+    let here = rw (← g.0) at c.in-Err.ensures.takes in
     valuable
-    (ready_again c.requires.ready (after_ready c.loop-steps.invariant.3 (omega (arith, c.loop-steps-test.true)) c.take-taken.ensures.takes)
-    (c.take-taken.auto.scratch ∙ c.loop-steps.invariant.2))
+    (ready_again c.requires.ready (after_ready g.1 (omega arith) here) (c.take.auto.scratch ∙ c.loop-number.auto.scratch))
     c.requires.ready.tables.goal
 
-pub shape_of-state-then-taken-ne0 : goal.shape_of-state-then-taken-ne0
-shape_of-state-then-taken-ne0 c =
-    c.take-taken.auto.state ∙ c.loop-steps.invariant.1
+pub returns-in-Err : goal.returns-in-Err
+returns-in-Err c =
+    let g = c.loop-number.invariant in
+    let here = rw (← g.0) at c.in-Err.ensures.takes in
+    stopped_run g.1 (omega arith) here (number_some c.in-Err.number)
+    (c.holds-there.ensures.value ∙ goal_told c.requires.ready (after_ready g.1 (omega arith) here))
 
-pub shape_of-scratch-then-taken-ne0 : goal.shape_of-scratch-then-taken-ne0
-shape_of-scratch-then-taken-ne0 c =
-    c.holds-there.auto.scratch ∙ c.take-taken.auto.scratch ∙ c.loop-steps.invariant.2
-
-pub returns-then-taken-ne0 : goal.returns-then-taken-ne0
-returns-then-taken-ne0 c =
-    stopped_run c.loop-steps.invariant.3 (omega (arith, c.loop-steps-test.true)) c.take-taken.ensures.takes c.if-taken-ne0.true
-    (c.holds-there.ensures.value ∙ goal_told c.requires.ready
-    (after_ready c.loop-steps.invariant.3 (omega (arith, c.loop-steps-test.true)) c.take-taken.ensures.takes))
-
-pub overflow_add-cost : goal.overflow_add-cost
-overflow_add-cost c =
-    omega (arith, c.loop-steps.invariant.3.costs, c.take-taken.ensures.takes.small)
-
-pub loop-steps-preserved : goal.loop-steps-preserved
-loop-steps-preserved c = (
-  omega (arith, c.loop-steps-test.true),
-  c.take-taken.auto.state ∙ c.loop-steps.invariant.1,
-  c.take-taken.auto.scratch ∙ c.loop-steps.invariant.2,
-  one_more c.loop-steps.invariant.3 (omega (arith, c.loop-steps-test.true)) c.take-taken.ensures.takes c.if-taken-ne0.false,
-)
-
-pub holds-reached-requires : goal.holds-reached-requires
-holds-reached-requires c =
-    valuable (ready_again c.requires.ready c.loop-steps.invariant.3.state c.loop-steps.invariant.2) c.requires.ready.tables.goal
-
-pub shape_of-state : goal.shape_of-state
-shape_of-state c = c.loop-steps.invariant.1
-
-pub shape_of-scratch : goal.shape_of-scratch
-shape_of-scratch c = c.holds-reached.auto.scratch ∙ c.loop-steps.invariant.2
+pub loop-number-preserved : goal.loop-number-preserved
+loop-number-preserved c =
+    let g = c.loop-number.invariant in
+    let here = rw (← g.0) at c.in-Ok.ensures.takes in
+    (omega arith, rw c.from-cost.ensures (one_more g.1 (omega arith) here refl))
 
 pub returns : goal.returns
 returns c =
-    ended_run c.loop-steps.invariant.3 (omega arith) (c.holds-reached.ensures.value ∙ goal_told c.requires.ready c.loop-steps.invariant.3.state)
+    let g = c.loop-number.invariant in
+    ended_run g.1 (omega arith) (c.holds-reached.ensures.value ∙ goal_told c.requires.ready g.1.state)

@@ -1,13 +1,10 @@
 -- `print_refusal` meets its contract: the line of a refusal: r and the number; 20 if `out` is shorter than that. Assumes nothing.
 use mathlib.Core.List.{[], ◌∷◌}
-use lib.ListN.{length}
 use Rattle.printing.specs.Lines.{line, refusal_line}
 use Rattle.printing.specs.Printing.{printing_refusal}
-use Rattle.printing.proofs.Puts.{put_on}
 use Rattle.printing.proofs.calls.print_refusal.Goals as goal
 
 pub returns : goal.returns
 unfolding printing_refusal refusal_line
 returns c =
-    c.settled.ensures (line 114 (c.args.number ∷ [])) (length c.args.out.now) 8
-    (put_on c.clear.ensures c.line_of_one-size.ensures)
+    c.settled.ensures c.args.out.now (line 114 (c.args.number ∷ [])) 8 c.line-size.ensures

@@ -1,22 +1,21 @@
--- `run_read` meets its contract: on the tables that a file was read into: 16, 19, 20, then the run. Assumes nothing.
-use mathlib.Core.Path.{sym, ◌∙◌}
-use lib.ListN.{length}
-use Rattle.task.specs.Table.{lent}
-use Rattle.run_entry.proofs.RunWays.{run_kept, run_refused}
+-- `run_read` meets its contract: what refuses a run, then the run. Assumes nothing.
+use mathlib.Core.Path.{refl, sym, ◌∙◌}
+use Rattle.run_entry.proofs.RunWays.{small_room, full_room, run_kept, run_refused}
 use Rattle.run_entry.proofs.call.run_read.Goals as goal
 
-pub returns-then-number-ne0 : goal.returns-then-number-ne0
-returns-then-number-ne0 c =
-    let a = c.args in run_refused (lent a.head a.initial.now a.twins.now a.formulas.now a.effects.now a.operators.now)
-    a.state.now a.sequence.now (length a.res.now) c.requires c.refused_run-number.ensures c.if-number-ne0.true
-    c.clear_bytes.ensures
+pub returns-in_err-refused_run : goal.returns-in_err-refused_run
+returns-in_err-refused_run c =
+    run_refused _ _ _ _ c.in_err-refused_run.field-0.0 _ c.requires c.in_err-refused_run.ensures c.from_residual.ensures.1 refl
 
-pub run_free-requires : goal.run_free-requires
-run_free-requires c =
-    record { kept = c.requires; free = sym c.refused_run-number.ensures ∙ c.if-number-ne0.false }
+pub run_in-requires : goal.run_in-requires
+run_in-requires c =
+    small_room (record { kept = c.requires; free = sym c.in_ok-refused_run.ensures }) (sym c.is_small.ensures ∙ c.if-is_small.true)
+
+pub returns-then-is_small : goal.returns-then-is_small
+returns-then-is_small c = run_kept _ _ _ _ c.requires c.in_ok-refused_run.ensures c.run_in.ensures
+
+pub run_in-requires-2 : goal.run_in-requires-2
+run_in-requires-2 c = full_room (record { kept = c.requires; free = sym c.in_ok-refused_run.ensures })
 
 pub returns : goal.returns
-returns c =
-    let a = c.args in run_kept (lent a.head a.initial.now a.twins.now a.formulas.now a.effects.now a.operators.now)
-    a.state.now a.sequence.now (length a.res.now) c.requires c.refused_run-number.ensures c.if-number-ne0.false
-    c.run_free.ensures
+returns c = run_kept _ _ _ _ c.requires c.in_ok-refused_run.ensures c.run_in-2.ensures

@@ -1,78 +1,51 @@
 -- `mask_of` gives the word of a row by its kind, each way out by a law of Masking. Assumes nothing.
 use native.Mathlib.Omega.{arith}
-use Prim.Native.Nat.{◌+◌, ◌*◌}
-use Rattle.task.specs.Table.{row_at}
-use Rattle.state_codes.proofs.Masking.{empty_row, set_ref, set_row, clear_ref, clear_row, both_refs, both_row, under_refs, under_false, under_true}
+use Rattle.state_codes.proofs.Masking.{known, empty_row, set_ref, set_row, clear_ref, clear_row, both_refs, both_row, under_refs, under_false, under_true}
 use Rattle.state_codes.proofs.masks.mask_of.Goals as goal
 
-pub overflow_cast-a : goal.overflow_cast-a
-overflow_cast-a c = omega (arith, c.type_inv.effects (3 * c.args.i + 1))
-
-pub overflow_cast-b : goal.overflow_cast-b
-overflow_cast-b c = omega (arith, c.type_inv.effects (3 * c.args.i + 2))
-
-pub overflow_cast-result : goal.overflow_cast-result
-unfolding row_at
-overflow_cast-result c = omega (arith, set_ref c.requires c.in-1.is)
+pub unwrap-kind-requires : goal.unwrap-kind-requires
+unwrap-kind-requires c = known c.requires c.row_at-row.ensures _ c.try_from.ensures
 
 pub overflow_shl-result : goal.overflow_shl-result
-unfolding row_at
-overflow_shl-result c = omega (arith, set_ref c.requires c.in-1.is)
+overflow_shl-result c =
+    omega (arith, set_ref c.requires c.row_at-row.ensures c.try_from.ensures c.unwrap-kind.ensures c.in-Set.is)
 
-pub overflow_cast-result-in-2 : goal.overflow_cast-result-in-2
-unfolding row_at
-overflow_cast-result-in-2 c = omega (arith, clear_ref c.requires c.in-2.is)
-
-pub overflow_shl-result-in-2 : goal.overflow_shl-result-in-2
-unfolding row_at
-overflow_shl-result-in-2 c = omega (arith, clear_ref c.requires c.in-2.is)
+pub overflow_shl-result-in-Clear : goal.overflow_shl-result-in-Clear
+overflow_shl-result-in-Clear c =
+    omega (arith, clear_ref c.requires c.row_at-row.ensures c.try_from.ensures c.unwrap-kind.ensures c.in-Clear.is)
 
 pub bounds-masks-a : goal.bounds-masks-a
-unfolding row_at
 bounds-masks-a c =
-    omega (arith, both_refs c.requires c.in-3.is, c.requires.room)
+    omega (arith, c.requires.room, both_refs c.requires c.row_at-row.ensures c.try_from.ensures c.unwrap-kind.ensures c.in-Both.is)
 
 pub bounds-masks-b : goal.bounds-masks-b
-unfolding row_at
 bounds-masks-b c =
-    omega (arith, both_refs c.requires c.in-3.is, c.requires.room)
+    omega (arith, c.requires.room, both_refs c.requires c.row_at-row.ensures c.try_from.ensures c.unwrap-kind.ensures c.in-Both.is)
 
 pub bounds-values-a : goal.bounds-values-a
-unfolding row_at
 bounds-values-a c =
-    let rest = c.in_default.in_default-own.rest in
-    omega (arith, under_refs c.requires rest.0.0.0.1 rest.0.0.1 rest.0.1 rest.1, c.requires.values_there)
+    omega (arith, c.requires.values_there, under_refs c.requires c.row_at-row.ensures c.try_from.ensures c.unwrap-kind.ensures c.in-Under.is)
 
 pub bounds-masks-b-else-values-a-eq0 : goal.bounds-masks-b-else-values-a-eq0
-unfolding row_at
 bounds-masks-b-else-values-a-eq0 c =
-    let rest = c.in_default.in_default-own.rest in
-    omega (arith, under_refs c.requires rest.0.0.0.1 rest.0.0.1 rest.0.1 rest.1, c.requires.room)
+    omega (arith, c.requires.room, under_refs c.requires c.row_at-row.ensures c.try_from.ensures c.unwrap-kind.ensures c.in-Under.is)
 
-pub returns-in-0 : goal.returns-in-0
-unfolding row_at
-returns-in-0 c = empty_row c.requires c.in-0.is
+pub returns-in-Empty : goal.returns-in-Empty
+returns-in-Empty c = empty_row c.requires c.row_at-row.ensures c.try_from.ensures c.unwrap-kind.ensures c.in-Empty.is
 
-pub returns-in-1 : goal.returns-in-1
-unfolding row_at
-returns-in-1 c = set_row c.requires c.in-1.is
+pub returns-in-Set : goal.returns-in-Set
+returns-in-Set c = set_row c.requires c.row_at-row.ensures c.try_from.ensures c.unwrap-kind.ensures c.in-Set.is
 
-pub returns-in-2 : goal.returns-in-2
-unfolding row_at
-returns-in-2 c = clear_row c.requires c.in-2.is
+pub returns-in-Clear : goal.returns-in-Clear
+returns-in-Clear c = clear_row c.requires c.row_at-row.ensures c.try_from.ensures c.unwrap-kind.ensures c.in-Clear.is
 
-pub returns-in-3 : goal.returns-in-3
-unfolding row_at
-returns-in-3 c = both_row c.requires c.in-3.is
+pub returns-in-Both : goal.returns-in-Both
+returns-in-Both c = both_row c.requires c.row_at-row.ensures c.try_from.ensures c.unwrap-kind.ensures c.in-Both.is
 
 pub returns-then-values-a-eq0 : goal.returns-then-values-a-eq0
-unfolding row_at
 returns-then-values-a-eq0 c =
-    let rest = c.in_default.in_default-own.rest in
-    under_false c.requires rest.0.0.0.1 rest.0.0.1 rest.0.1 rest.1 c.if-values-a-eq0.true
+    under_false c.requires c.row_at-row.ensures c.try_from.ensures c.unwrap-kind.ensures c.in-Under.is c.if-values-a-eq0.true
 
 pub returns-else-values-a-eq0 : goal.returns-else-values-a-eq0
-unfolding row_at
 returns-else-values-a-eq0 c =
-    let rest = c.in_default.in_default-own.rest in
-    under_true c.requires rest.0.0.0.1 rest.0.0.1 rest.0.1 rest.1 c.if-values-a-eq0.false
+    under_true c.requires c.row_at-row.ensures c.try_from.ensures c.unwrap-kind.ensures c.in-Under.is c.if-values-a-eq0.false

@@ -7,9 +7,6 @@ use mathlib.Core.Logic.{inl, inr}
 use Rattle.state_queue.proofs.nodes.lower.Goals as goal
 use Rattle.state_queue.proofs.nodes.lower.Goals.{then-other_key-first_key, else-other_key-first_key}
 
-pub key_of-first_key-requires : goal.key_of-first_key-requires
-key_of-first_key-requires c = (c.requires.0, c.requires.1.there)
-
 pub loop-node-init : goal.loop-node-init
 loop-node-init c = lowering_begin c.requires.1 c.key_of-first_key.ensures
 
@@ -40,18 +37,6 @@ overflow_cast-words c =
     ] in
     omega (arith, named, c.requires.0.limit)
 
-pub overflow_add-words : goal.overflow_add-words
-overflow_add-words c =
-    omega (arith, c.loop-node.invariant.bottom, c.requires.0.limit)
-
-pub offset_bounds-words-n : goal.offset_bounds-words-n
-offset_bounds-words-n c =
-    omega (arith, c.loop-node.invariant.bottom, c.requires.0.limit)
-
-pub bounds-words-n : goal.bounds-words-n
-bounds-words-n c =
-    omega (arith, c.loop-node.invariant.bottom, c.loop-node.invariant.playing.long, c.requires.0.room)
-
 pub loop-node-preserved : goal.loop-node-preserved
 loop-node-preserved c =
     let roomy = roomy_on c.requires.0 c.loop-node.invariant.playing.long in
@@ -63,9 +48,6 @@ loop-node-preserved c =
           lowering_on c.loop-node.invariant (omega arith) c.sibling-beside.ensures c.winner-other.ensures roomy c.key_of-other_key.ensures
           (inr (w.if-other_key-first_key.false, w.first-is, w.first_key-is))
     ]
-
-pub shape_of-words : goal.shape_of-words
-shape_of-words c = c.loop-node.invariant.playing.long
 
 pub returns : goal.returns
 returns c = lowered c.loop-node.invariant (omega arith)

@@ -6,9 +6,6 @@ use Rattle.state_queue.proofs.Playing.{roomy_on}
 use Rattle.state_queue.proofs.Raising.{raising_begin, raising_climbs, raising_climbed, raising_stopped, raised}
 use Rattle.state_queue.proofs.nodes.raise.Goals as goal
 
-pub key_of-own-requires : goal.key_of-own-requires
-key_of-own-requires c = (c.requires.0, c.requires.1.there)
-
 pub loop-node-init : goal.loop-node-init
 loop-node-init c = raising_begin c.requires.1
 
@@ -26,9 +23,6 @@ pub loop-node-preserved : goal.loop-node-preserved
 loop-node-preserved c =
     raising_climbed c.loop-node.invariant (roomy_on c.requires.0 c.loop-node.invariant.long) (omega arith)
     (rw c.if-not-climb.false at c.climb.ensures)
-
-pub shape_of-words : goal.shape_of-words
-shape_of-words c = c.loop-node.invariant.long
 
 pub returns : goal.returns
 returns c = raised c.loop-node.invariant (omega arith)

@@ -4,7 +4,4 @@ use Rattle.state_queue.proofs.Playing.{Playing}
 use Rattle.state_queue.proofs.nodes.set_nodes.Given as goal
 
 abbrev pub invariant-loop-node : goal.invariant-loop-node
-invariant-loop-node l = (l.node ≤ l.n) × Playing l.n l.initial.words l.words (λ i. l.node ≤ i)
-
-abbrev pub decreases-loop-node : goal.decreases-loop-node
-decreases-loop-node l = l.node
+invariant-loop-node l = Playing l.n l.initial.words l.words (λ i. l.node ≤ i)

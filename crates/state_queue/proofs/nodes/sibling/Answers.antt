@@ -7,5 +7,5 @@ use Rattle.state_queue.proofs.nodes.sibling.Goals as goal
 pub returns-then-node-eq0 : goal.returns-then-node-eq0
 returns-then-node-eq0 c = right_of (c.args.node + 1) (omega (arith, c.if-node-eq0.true)) (omega (arith, c.if-node-eq0.true))
 
-pub returns : goal.returns
-returns c = left_of (c.args.node - 1) (omega (arith, c.if-node-eq0.false)) (omega (arith, c.if-node-eq0.false))
+pub returns-else-node-eq0 : goal.returns-else-node-eq0
+returns-else-node-eq0 c = left_of (c.args.node - 1) (omega (arith, c.if-node-eq0.false)) (omega (arith, c.if-node-eq0.false))

@@ -1,5 +1,4 @@
 -- `twins_kept` meets its contract: whether each twin row names a variable below `bound` that no row before it names. Assumes nothing.
-use Prim.Native.Nat.{◌≤◌, ◌-◌}
 use mathlib.Core.Path.{◌≡◌}
 use mathlib.Core.Bool.{true}
 use Rattle.task.specs.Bounded.{every}
@@ -7,8 +6,6 @@ use Rattle.task.specs.Check.{twin_kept}
 use Rattle.task.proofs.Named.{NamedBy}
 use Rattle.task.proofs.check.twins_kept.Given as goal
 
-abbrev pub invariant-loop-k : goal.invariant-loop-k
-invariant-loop-k l = (l.k ≤ l.count) × (every l.k (twin_kept l.bound l.twins) ≡ true) × NamedBy l.twins l.k l.named
-
-abbrev pub decreases-loop-k : goal.decreases-loop-k
-decreases-loop-k l = l.count - l.k
+abbrev pub invariant-loop-twin : goal.invariant-loop-twin
+invariant-loop-twin l =
+    record { kept : every l.twin-index (twin_kept l.bound l.twins) ≡ true; named : NamedBy l.twins l.twin-index l.named }

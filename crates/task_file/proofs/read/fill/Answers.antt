@@ -1,47 +1,38 @@
--- `fill` meets its contract: A file into the front of the tables. Assumes nothing.
-use mathlib.Core.Path.{refl, sym, ap, ◌∙◌}
-use lib.ListN.{length}
-use Rattle.task_file.specs.Inner.Answers.{head_told, no_task, lost_place}
-use Rattle.task_file.specs.Outcome.{lengths}
-use Rattle.task_file.proofs.ReadWays.{bytes_from, head_room, head_lost, table-lost, bytes_left, task-held, room_kept}
+-- `fill` meets its contract: a file into the front of the tables, and 0 into all behind. Assumes nothing.
+use Rattle.std.proofs.Common.{refl, sym, ap, ◌∙◌}
+use Rattle.task.specs.declared.refusal.Refusal.{Refusal}
+use Rattle.task.specs.Refused.{number_of}
+use Rattle.task_file.specs.Outcome.{Refused}
+use Rattle.task_file.proofs.ReadWays.{bytes_from, answered_onward, head_room, head_lost, table_lost, bytes_left, task_held, room_kept, same_lengths}
 use Rattle.task_file.proofs.read.fill.Goals as goal
 
-pub returns-in_default : goal.returns-in_default
-returns-in_default c =
-    let a = c.args in let file = a.file.now in let l =
-    (lengths (length a.initial.now) (length a.twins.now) (length a.formulas.now) (length a.effects.now) (length a.operators.now)) in
-    head_lost l file (sym c.read_kept_head-h.ensures ∙ ap (head_told file) c.in_default.is)
-    (c.no_head.ensures ∙ ap no_task c.in_default.is)
+pub returns-in_err-head : goal.returns-in_err-head
+returns-in_err-head c = rw (head_lost _ _ (sym (rw c.new-reader.ensures at c.in_err-head.ensures))) (answered_onward _ _ c.from_residual.ensures.1)
 
-pub fill_tables-p-requires : goal.fill_tables-p-requires
-fill_tables-p-requires c =
-    let a = c.args in let file = a.file.now in let l =
-    (lengths (length a.initial.now) (length a.twins.now) (length a.formulas.now) (length a.effects.now) (length a.operators.now)) in
-    head_room l file (sym c.read_kept_head-h.ensures ∙ ap (head_told file) c.in-Counts.is) refl
+pub tables-requires : goal.tables-requires
+tables-requires c = head_room _ _ (sym (rw c.new-reader.ensures at c.in_ok-head.ensures)) refl
 
-pub returns-in_default-p : goal.returns-in_default-p
-returns-in_default-p c =
-    let a = c.args in let file = a.file.now in let l =
-    (lengths (length a.initial.now) (length a.twins.now) (length a.formulas.now) (length a.effects.now) (length a.operators.now)) in
-    table-lost l file (sym c.read_kept_head-h.ensures ∙ ap (head_told file) c.in-Counts.is) c.fill_tables-p.ensures
-    c.in_default-p.is (c.lost.ensures ∙ ap lost_place c.in_default-p.is)
+pub returns-in_err-tables : goal.returns-in_err-tables
+returns-in_err-tables c =
+    rw (table_lost _ _ (sym (rw c.new-reader.ensures at c.in_ok-head.ensures)) (sym c.in_err-tables.ensures))
+    (answered_onward _ _ c.from_residual-in_err-tables.ensures.1)
 
-pub returns-then-end-file : goal.returns-then-end-file
-returns-then-end-file c =
-    let a = c.args in let file = a.file.now in let l =
-    (lengths (length a.initial.now) (length a.twins.now) (length a.formulas.now) (length a.effects.now) (length a.operators.now)) in
-    bytes_left l file (sym c.read_kept_head-h.ensures ∙ ap (head_told file) c.in-Counts.is) c.fill_tables-p.ensures
-    c.in-At.is c.if-end-file.true
+pub returns-in_err-end : goal.returns-in_err-end
+returns-in_err-end c =
+    rw (bytes_left _ _ (sym (rw c.new-reader.ensures at c.in_ok-head.ensures)) (sym c.in_ok-tables.ensures) c.in_err-end.ensures.0)
+    (answered_onward _ _ c.from_residual-in_err-end.ensures.1 ∙ ap (λ (e : Refusal). Refused (number_of e)) c.in_err-end.ensures.1)
+
+pub clear_behind-requires : goal.clear_behind-requires
+clear_behind-requires c =
+    let t = c.tables.auto in
+    room_kept (same_lengths t.initial t.twins t.formulas t.effects t.operators)
+    (head_room _ _ (sym (rw c.new-reader.ensures at c.in_ok-head.ensures)) refl)
 
 pub returns : goal.returns
 returns c =
-    let a = c.args in let file = a.file.now in let l =
-    (lengths (length a.initial.now) (length a.twins.now) (length a.formulas.now) (length a.effects.now) (length a.operators.now)) in
-    task-held l file (sym c.read_kept_head-h.ensures ∙ ap (head_told file) c.in-Counts.is) c.fill_tables-p.ensures
-    c.in-At.is c.if-end-file.false (bytes_from file (λ i. (c.type_inv.file i).fits))
-    (room_kept a.initial.now a.twins.now a.formulas.now a.effects.now a.operators.now c.fill_tables-p.new.initial
-    c.fill_tables-p.new.twins c.fill_tables-p.new.formulas
-    c.fill_tables-p.new.effects c.fill_tables-p.new.operators
-    c.fill_tables-p.auto.initial c.fill_tables-p.auto.twins c.fill_tables-p.auto.formulas
-    c.fill_tables-p.auto.effects c.fill_tables-p.auto.operators
-    (head_room l file (sym c.read_kept_head-h.ensures ∙ ap (head_told file) c.in-Counts.is) refl))
+    let t = c.tables.auto in
+    let same = same_lengths t.initial t.twins t.formulas t.effects t.operators in
+    task_held _ _ (sym (rw c.new-reader.ensures at c.in_ok-head.ensures)) _ _ _ _ _ (sym c.in_ok-tables.ensures)
+    c.in_ok-end.ensures
+    (bytes_from c.args.file.now (λ i. (c.type_inv.file i).fits))
+    (room_kept same (head_room _ _ (sym (rw c.new-reader.ensures at c.in_ok-head.ensures)) refl)) same c.clear_behind.ensures

@@ -1,30 +1,37 @@
--- `put_state` meets its contract: the state of `count` variables, packed. Assumes nothing.
+-- `put_state` meets its contract: a state, packed. Assumes nothing.
 use native.Mathlib.Omega.{arith}
-use Prim.Native.Nat.{◌+◌, ◌/◌}
-use lib.ListN.{take}
-use Rattle.task_writer.proofs.Puts.{put_same}
-use Rattle.task_writer.proofs.PutLoops.{put_begin, put_more, put_end, state_bytes, state_none_put, state_more_put, state_all}
+use mathlib.Core.Path.{◌∙◌}
+use Rattle.std.proofs.Common.{rules}
+use lib.ListN.{length}
+use Rattle.std.proofs.lemmas.List.{length_push}
+use Rattle.std.specs.Slice.Iter.{chunks_rest}
+use Rattle.task_writer.proofs.PutLoops.{pack_begin, pack_more, pack_end, pack_reach, chunk_bits}
 use Rattle.task_writer.proofs.put_tables.put_state.Goals as goal
 
-pub overflow_add-bytes : goal.overflow_add-bytes
-overflow_add-bytes c = omega (arith, c.requires.1)
+pub loop-bits-init : goal.loop-bits-init
+loop-bits-init c = (search rules, pack_begin c.args.state.now c.args.at c.args.out.now (search rules))
 
-pub loop-j-init : goal.loop-j-init
-loop-j-init c =
-    let a = c.args in put_begin (state_bytes (take a.count a.initial.now)) ((a.count + 7) / 8) a.at a.out.now
-    (state_none_put (take a.count a.initial.now))
+pub pack-requires : goal.pack-requires
+pack-requires c =
+    let steps = c.in-Some.ensures.steps in (
+      chunk_bits c.in-Some.bits.now (chunks_rest c.next.new.self) (length c.loop-bits.yielded) c.requires.0 c.loop-bits.invariant.1.left steps.1.0,
+      omega (arith, steps.1.1, c.loop-bits.invariant.0),
+    )
 
-pub loop-j-smaller : goal.loop-j-smaller
-loop-j-smaller c = omega (arith, c.loop-j-test.true)
+pub put_byte-next-requires : goal.put_byte-next-requires
+put_byte-next-requires c = omega (arith, c.requires.1, pack_reach c.loop-bits.invariant.1)
 
-pub loop-j-preserved : goal.loop-j-preserved
-loop-j-preserved c =
-    let a = c.args in put_more (state_bytes (take a.count a.initial.now)) ((a.count + 7) / 8) a.at a.out.now c.loop-j.out
-    c.loop-j.j c.loop-j.place c.loop-j.invariant c.loop-j-test.true c.put_byte-place.ensures (omega arith)
-    (state_more_put (take a.count a.initial.now) c.loop-j.j c.pack.ensures)
+pub loop-bits-preserved : goal.loop-bits-preserved
+loop-bits-preserved c =
+    let steps = c.in-Some.ensures.steps in
+    let size = c.loop-bits.invariant.0 in (
+      steps.0 ∙ size,
+      rw length_push
+          (pack_more c.args.state.now c.args.at c.args.out.now c.in-Some.bits.now (chunks_rest c.next.new.self) c.loop-bits.invariant.1
+          steps.1.0 (rw size at steps.1.1) steps.1.2 (rw c.pack.ensures at c.put_byte-next.ensures)),
+    )
 
 pub returns : goal.returns
 returns c =
-    let a = c.args in put_same (state_all a.initial.now a.count c.requires.0.fit)
-    (put_end (state_bytes (take a.count a.initial.now)) ((a.count + 7) / 8) a.at a.out.now c.loop-j.out c.loop-j.j
-    c.loop-j.place c.loop-j.invariant c.loop-j-test.false)
+    let steps = c.in-None.ensures.steps in
+    pack_end c.args.state.now c.args.at c.args.out.now c.loop-bits.invariant.1 steps.1.0

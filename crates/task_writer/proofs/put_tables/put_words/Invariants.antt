@@ -1,10 +1,6 @@
--- `put_words` meets its contract: the first `count` words, plain. Assumes nothing.
-use Prim.Native.Nat.{◌-◌}
+-- `put_words` meets its contract: words, plain. Assumes nothing.
 use Rattle.task_writer.proofs.PutLoops.{PutDone, words_bytes}
 use Rattle.task_writer.proofs.put_tables.put_words.Given as goal
 
-abbrev pub invariant-loop-k : goal.invariant-loop-k
-invariant-loop-k l = PutDone (words_bytes l.words) l.count l.at l.initial.out l.out l.k l.place
-
-abbrev pub decreases-loop-k : goal.decreases-loop-k
-decreases-loop-k l = l.count - l.k
+abbrev pub invariant-loop-word : goal.invariant-loop-word
+invariant-loop-word l = PutDone (words_bytes l.words) l.at l.initial.out l.out l.word-index l.next

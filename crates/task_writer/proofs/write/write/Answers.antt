@@ -1,26 +1,23 @@
 -- `write` meets its contract: writes the file of lent tables. Assumes nothing.
-use mathlib.Core.Path.{sym, ◌∙◌}
-use Rattle.task.specs.Table.{lent}
+use mathlib.Core.Path.{sym}
+use Rattle.task.specs.Lending.{lent_tables}
 use Rattle.task_writer.proofs.WriteWays.{write_in, not_checked, too_long, fits}
 use Rattle.task_writer.proofs.write.write.Goals as goal
 
-pub returns-then-number-ne0 : goal.returns-then-number-ne0
-returns-then-number-ne0 c =
-    let a = c.args in not_checked (lent a.head a.initial.now a.twins.now a.formulas.now a.effects.now a.operators.now)
-    a.out.now c.clear_bytes.ensures c.check-number.ensures c.if-number-ne0.true
+pub returns-in_err-check : goal.returns-in_err-check
+returns-in_err-check c =
+    not_checked (lent_tables c.args.tables.now) c.args.out.now c.from_residual.result c.in_err-check.field-0.0
+    (c.fill.ensures.after (λ y h. h)) c.from_residual.ensures.1 c.in_err-check.ensures
 
 pub put_task-end-requires : goal.put_task-end-requires
-put_task-end-requires c =
-    let a = c.args in write_in (lent a.head a.initial.now a.twins.now a.formulas.now a.effects.now a.operators.now)
-    (sym c.check-number.ensures ∙ c.if-number-ne0.false)
+put_task-end-requires c = write_in (lent_tables c.args.tables.now) (sym c.in_ok-check.ensures)
 
 pub returns-then-out-end : goal.returns-then-out-end
 returns-then-out-end c =
-    let a = c.args in too_long (lent a.head a.initial.now a.twins.now a.formulas.now a.effects.now a.operators.now) a.out.now
-    c.clear_bytes.ensures c.check-number.ensures (c.if-number-ne0.false) c.put_task-end.ensures c.if-out-end.true
-    c.clear_bytes-then-out-end.ensures
+    too_long (lent_tables c.args.tables.now) c.args.out.now (c.fill.ensures.after (λ y h. h)) (sym c.in_ok-check.ensures)
+    c.put_task-end.ensures c.if-out-end.true (c.fill-then-out-end.ensures.after (λ y h. h))
 
 pub returns : goal.returns
 returns c =
-    let a = c.args in fits (lent a.head a.initial.now a.twins.now a.formulas.now a.effects.now a.operators.now) a.out.now
-    c.clear_bytes.ensures c.check-number.ensures (c.if-number-ne0.false) c.put_task-end.ensures c.if-out-end.false
+    fits (lent_tables c.args.tables.now) c.args.out.now (c.fill.ensures.after (λ y h. h)) (sym c.in_ok-check.ensures)
+    c.put_task-end.ensures c.if-out-end.false

@@ -1,50 +1,59 @@
 -- `deletes` meets its contract: D, freed of conflict with A: if neither is row 0, D and N, with N the negated condition of set v. Assumes nothing.
-use Rattle.formula_builder.specs.Inner.Held.{store, framed}
-use Rattle.conditions.specs.Inner.Conditions.{condition_at}
-use Rattle.variable_changes.proofs.Standing.{asks_condition, never_set, never_cleared, negated-full, negated-join-asks, negated-joined}
-use borrow.Author.Tests.{eq-eqb, ne_eqb}
-use Rattle.formula_builder.specs.Inner.Held.{sized}
 use mathlib.Core.Path.{refl}
+use Rattle.formula_builder.specs.Inner.Held.{size_in, store_in}
+use Rattle.formula_builder.proofs.Steps.{same_twice}
+use Rattle.conditions.specs.Inner.Conditions.{condition_at}
+use Rattle.conditions.proofs.Steps.{same_conditions_itself, failed}
+use Rattle.variable_changes.proofs.Standing.{conflict_none, negated-full, negated-joined}
 use Rattle.variable_changes.proofs.conflict.deletes.Goals as goal
 
-pub returns-then-c-eq0 : goal.returns-then-c-eq0
-returns-then-c-eq0 c =
-    (never_set (framed c.args.frame.now) c.args.formulas.now c.args.effects.now
-    ((sized c.args.rows.now c.args.twins.now)) (store c.args.table.now c.args.originals.now)
-    c.args.scratch.now c.args.e c.args.v c.args.c.adds c.args.c.deletes c.requires c.if-c-eq0.true)
+pub returns-then-adds-eq0 : goal.returns-then-adds-eq0
+returns-then-adds-eq0 c =
+    let b = c.args.b.now in
+    record {
+      conditions =
+          conflict_none b.images.builder.frame b.images.formulas.now b.effects.now (size_in b.images.builder) (store_in b.images.builder) b.images.scratch.now
+          c.args.e c.args.v c.args.adds c.args.deletes c.requires.stands c.requires.row c.then-adds-eq0.either;
+      same = same_conditions_itself b;
+    }
 
-pub returns-then-c-eq0-2 : goal.returns-then-c-eq0-2
-returns-then-c-eq0-2 c =
-    (never_cleared (framed c.args.frame.now) c.args.formulas.now c.args.effects.now
-    ((sized c.args.rows.now c.args.twins.now)) (store c.args.table.now c.args.originals.now)
-    c.args.scratch.now c.args.e c.args.v c.args.c.adds c.args.c.deletes c.requires c.if-c-eq0.false
-    c.if-c-eq0-2.true)
-
-pub condition-n-requires : goal.condition-n-requires
-condition-n-requires c =
-    asks_condition _ c.requires.stands c.requires.variable
-
-pub returns-then-n : goal.returns-then-n
+pub returns-in_err-n : goal.returns-in_err-n
 unfolding condition_at
-returns-then-n c =
-    negated-full (framed c.args.frame.now) c.args.formulas.now c.args.effects.now
-    ((sized c.args.rows.now c.args.twins.now)) (store c.args.table.now c.args.originals.now)
-    c.args.scratch.now c.args.e c.args.v c.args.c.adds c.args.c.deletes c.requires c.if-c-eq0.false
-    c.if-c-eq0-2.false c.condition-n.ensures (eq-eqb _ 65535 c.if-n.true)
-
-pub join-requires : goal.join-requires
-unfolding condition_at
-join-requires c =
-    negated-join-asks (framed c.args.frame.now) c.args.formulas.now c.args.effects.now
-    ((sized c.args.rows.now c.args.twins.now)) (store c.args.table.now c.args.originals.now)
-    c.args.scratch.now c.args.e c.args.v c.args.c.adds c.args.c.deletes c.requires c.if-c-eq0.false
-    c.if-c-eq0-2.false c.condition-n.ensures (ne_eqb _ 65535 c.if-n.false)
+returns-in_err-n c =
+    let b = c.args.b.now in
+    let n = c.in_err-n.ensures in
+    failed
+    (record {
+      conditions =
+          negated-full b.images.builder.frame b.images.formulas.now b.effects.now (size_in b.images.builder) (store_in b.images.builder) b.images.scratch.now
+          c.args.e c.args.v c.args.adds c.args.deletes c.requires.stands c.requires.row c.if-adds-eq0.false
+          c.if-deletes-eq0.false n.conditions refl;
+      same = n.same;
+    })
+    c.from_residual.ensures.0
 
 pub returns : goal.returns
 unfolding condition_at
 returns c =
-    negated-joined (framed c.args.frame.now) c.args.formulas.now c.args.effects.now
-    ((sized c.args.rows.now c.args.twins.now)) (store c.args.table.now c.args.originals.now)
-    c.args.scratch.now c.args.e c.args.v c.args.c.adds c.args.c.deletes c.requires c.if-c-eq0.false
-    c.if-c-eq0-2.false c.condition-n.ensures (ne_eqb _ 65535 c.if-n.false)
-    (c.join.ensures _ _ _ refl (c.condition-n.ensures.builds.done (ne_eqb _ 65535 c.if-n.false)).ready)
+    let b = c.args.b.now in
+    let n = c.in_ok-n.ensures in
+    let same = n.same.images in
+    record {
+      conditions =
+          negated-joined b.images.builder.frame b.images.formulas.now b.effects.now (size_in b.images.builder) (store_in b.images.builder) b.images.scratch.now
+          c.args.e c.args.v c.args.adds c.args.deletes c.requires.stands c.requires.row c.if-adds-eq0.false
+          c.if-deletes-eq0.false n.conditions refl (rw (← same.builder.frame) c.join.ensures.builds);
+      same =
+          record {
+            images =
+                record {
+                  builder = same_twice same.builder c.join.ensures.same;
+                  formulas = same.formulas;
+                  scratch = same.scratch;
+                  scratch_length = same.scratch_length;
+                };
+            effects = n.same.effects;
+            notes = n.same.notes;
+            notes_length = n.same.notes_length;
+          };
+    }

@@ -1,2 +1,0 @@
--- What only private functions ask and leave; no promise to a caller rests on it.
-pub mod Giving

@@ -1,9 +1,0 @@
--- `number` meets its contract: the places of w twins, the last one first: of equal originals the first stays. Assumes nothing.
-use Rattle.rule_writer.proofs.Placing.{Numbered}
-use Rattle.rule_writer.proofs.places.number.Given as goal
-
-abbrev pub invariant-loop-k : goal.invariant-loop-k
-invariant-loop-k l = Numbered l.originals l.initial.places l.v l.w l.places l.k
-
-abbrev pub decreases-loop-k : goal.decreases-loop-k
-decreases-loop-k l = l.k

@@ -1,8 +1,0 @@
--- `percent_of` meets its contract: the percent of operator o. Assumes nothing.
-use mathlib.Core.Path.{refl}
-use Rattle.task.specs.Table.{operator_at}
-use Rattle.task.proofs.operator_rows.percent_of.Goals as goal
-
-pub returns : goal.returns
-unfolding operator_at
-returns c = refl
