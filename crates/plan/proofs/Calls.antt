@@ -1,6 +1,7 @@
 -- Laws of the call: each way out gives what the call's definition gives. Assumes nothing.
-use Prim.Native.Nat.{ℕ, zero, suc}
-use mathlib.Core.Path.{◌≡◌, refl, ap, ◌∙◌}
+use Prim.Native.Nat.{ℕ, zero, suc, ◌<◌}
+use native.Mathlib.Omega.{arith}
+use mathlib.Core.Path.{◌≡◌, refl, sym, ap, ◌∙◌}
 use mathlib.Core.Bool.{false}
 use mathlib.Core.List.{List}
 use lib.ListN.{length, replicate}
@@ -9,10 +10,11 @@ use Rattle.std.specs.Result.{IsErrAnd}
 use Rattle.task.specs.declared.refusal.Refusal.{Refusal}
 use Rattle.task.specs.Refused.{number_of}
 use Rattle.task.specs.Table.{Lent, task_of}
+use Rattle.task.specs.Run.{plain_run}
 use Rattle.task.proofs.Refusals.{number_some}
 use Rattle.operator_step.proofs.Taking.{refused}
 use Rattle.plan.specs.declared.outcome.RunOutcome.{RunOutcome as Outcome}
-use Rattle.plan.specs.Outcome.{RunOutcome, Refused, run_refusal, cleared, run_refused, run_told, run_by, ran, run_answered, RunGives}
+use Rattle.plan.specs.Outcome.{RunOutcome, Refused, run_refusal, cleared, run_refused, run_answer, run_told, run_by, ran, run_answered, RunGives}
 use Rattle.plan.specs.Inner.Done.{RunDone, RunTold}
 
 -- the ways out of `run_told`
@@ -61,3 +63,41 @@ run_gives l s numbers scratch mid done same z =
       scratch =
           z ∙ ap (λ (n : ℕ). replicate n 0) same ∙ by_cleared (run_refusal l s numbers scratch) l s numbers scratch;
     }
+
+-- what `ran` gives, told of itself: for the tactics, which take an equation whose left side shows all of a call
+module _ (l : Lent) (s numbers scratch : List ℕ) where
+  by_refused :
+      (n : ℕ)
+      → 0 < n
+      → ((run_by n l s numbers scratch).answer ≡ record { steps = 0; cost = 0; goal = false; end = Refused n })
+      × ((run_by n l s numbers scratch).state ≡ s)
+  unfolding run_by run_refused
+  by_refused zero d = absurd (omega arith)
+  by_refused (suc n) d = (refl, refl)
+
+  pub ran_refused :
+      0 < run_refusal l s numbers scratch
+      → (ran l s numbers scratch).answer
+      ≡ record { steps = 0; cost = 0; goal = false; end = Refused (run_refusal l s numbers scratch) }
+  unfolding ran
+  ran_refused d = (by_refused (run_refusal l s numbers scratch) d).0
+
+  pub ran_left : 0 < run_refusal l s numbers scratch → (ran l s numbers scratch).state ≡ s
+  unfolding ran
+  ran_left d = (by_refused (run_refusal l s numbers scratch) d).1
+
+  pub ran_answer :
+      0 ≡ run_refusal l s numbers scratch → (ran l s numbers scratch).answer ≡ run_answer (plain_run (task_of l) s numbers)
+  unfolding ran run_by run_told
+  ran_answer free = rw (← free) refl
+
+  pub ran_state : 0 ≡ run_refusal l s numbers scratch → (ran l s numbers scratch).state ≡ (plain_run (task_of l) s numbers).state
+  unfolding ran run_by run_told
+  ran_state free = rw (← free) refl
+
+  pub ran_scratch : (ran l s numbers scratch).scratch ≡ replicate (length scratch) 0
+  unfolding ran
+  ran_scratch = sym (by_cleared (run_refusal l s numbers scratch) l s numbers scratch)
+
+pub numbered : (e : Refusal) → 0 < number_of e
+numbered e = grind (arith, number_some e)

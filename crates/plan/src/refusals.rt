@@ -9,6 +9,7 @@ use task::refusal::Refusal;
 use task::tables::Tables;
 
 // The first in order: what refuses a step, then too long a sequence.
+#[tactic(auto, using(crate::proofs::Refusing::run_refused_long))]
 pub fn refused_run(
     tables: &Tables<'_>,
     state: &[u8],

@@ -57,7 +57,7 @@ fn run_ready(
 }
 
 // The run, which leaves what it worked with in scratch.
-#[tactic(auto, using(crate::proofs::Refusing::run_ready, crate::proofs::Refusing::short_enough))]
+#[tactic(auto, using(crate::proofs::Refusing::run_ready, crate::proofs::Refusing::short_enough, crate::proofs::Calls::ran_refused, crate::proofs::Calls::ran_left, crate::proofs::Calls::ran_answer, crate::proofs::Calls::ran_state, crate::proofs::Calls::numbered))]
 fn run_told(
     tables: &Tables<'_>,
     state: &mut [u8],
@@ -72,6 +72,7 @@ fn run_told(
 
 // The numbers are carried out from the front until one is refused. Scratch of F + E bytes, of any content, ends as 0.
 // Cost: the check of the tables once, then F + E + V a step.
+#[tactic(auto, using(crate::proofs::Calls::ran_scratch))]
 pub fn run(
     tables: &Tables<'_>,
     state: &mut [u8],
