@@ -25,9 +25,16 @@ pub record_inside : (t : List ℕ) (i : ℕ) → operator_width * i + operator_w
 unfolding row_record holds
 record_inside t i h = rw (le-leb (operator_width * i + operator_width) (length t) h)
 
+-- the same told of `row_record` itself, for the tactics
+pub record_there : (t : List ℕ) (i : ℕ) → operator_width * i + operator_width ≤ length t → row_record t i ≡ as_record (operator_at t i)
+record_there t i h = sym (record_inside t i h)
+
 pub record_outside : (t : List ℕ) (i : ℕ) → length t < operator_width * i + operator_width → no_record ≡ row_record t i
 unfolding row_record holds
 record_outside t i h = rw (lt-leb (operator_width * i + operator_width) (length t) h)
+
+pub record_past : (t : List ℕ) (i : ℕ) → length t < operator_width * i + operator_width → row_record t i ≡ no_record
+record_past t i h = sym (record_outside t i h)
 
 pub stored_inside : (t : List ℕ) (i : ℕ) (r : OperatorRecord) → operator_width * i + operator_width ≤ length t
     → operator_stored t i (as_operator r) ≡ with_record t i r

@@ -13,6 +13,7 @@ const NO_RECORD: OperatorRecord = OperatorRecord {
 };
 
 // The record of row `number` of an operator table; all words 0 where the table does not hold that row.
+#[tactic(auto, using(crate::proofs::Rows::record_there, crate::proofs::Rows::record_past))]
 pub fn record_of(operators: &[u16], number: usize) -> OperatorRecord
     ensures { result ≡ row_record operators.now number }
 {
