@@ -15,7 +15,7 @@ use Rattle.task.specs.declared.refusal.Refusal.{Refusal}
 use Rattle.task.specs.declared.refusal.Refusal.TheVariants as f
 use Rattle.task.specs.Refused.{told}
 use Rattle.task.specs.declared.Head.{Head}
-use Rattle.task.specs.Table.{Lent, task_of}
+use Rattle.task.specs.Table.{Task, Lent, task_of}
 use Rattle.task.specs.Check.{refusal, unless}
 use Rattle.task.specs.Rules.{Checked}
 use Rattle.task.specs.Words.{joined, head_of, padded}
@@ -24,7 +24,7 @@ use Rattle.task.proofs.Held.{length_initial}
 use Rattle.task.proofs.Kept.{kept_rules}
 use Rattle.task.proofs.Passed.{passed, counts_tested}
 use Rattle.file_format.specs.Bytes.{word_bytes}
-use Rattle.file_format.specs.Reading.{Lengths, Verdict, rejected, reading}
+use Rattle.file_format.specs.Reading.{Lengths, Verdict, accepted, rejected, reading}
 use Rattle.task_writer.specs.Inner.Putting.{Put}
 use Rattle.task_writer.proofs.Puts.{put_then}
 use Rattle.stepper.specs.Stepped.{step_scratch_kept}
@@ -324,6 +324,16 @@ pub plan_no_file :
     → PlanEntryGives (plan_entry_by (reading m file) o r) n out' result'
 unfolding plan_entry_by
 plan_no_file m file o r e g = rw e g
+
+-- the same told of `plan_entry_by` itself, for the tactics
+pub by_accepted :
+    (t : Task) (o r : ℕ) → plan_entry_by (accepted t) o r ≡ plan_given (plan_number (head_of t) r) t o r
+unfolding plan_entry_by
+by_accepted t o r = refl
+
+pub by_rejected : (k o r : ℕ) → plan_entry_by (rejected k) o r ≡ nothing_planned k o r
+unfolding plan_entry_by
+by_rejected k o r = refl
 
 -- through tables of any lengths, any answer but 5 is the entry's
 pub plan_settled :
