@@ -320,6 +320,16 @@ module _ (l : Lent) (plan scratch words : List ℕ) where
         words = c ∙ sym scratch_cleared.1;
       }
 
+  -- the same told of `planned` itself: for the tactics, which take an equation whose left side shows all of a call
+  pub planned_clear : planned l plan scratch words ≡ planned l (replicate (length plan) 0) scratch words
+  planned_clear = sym (planned_same (replicate (length plan) 0) (length-replicate {A = ℕ} (length plan) 0))
+
+  pub planned_scratch : (planned l plan scratch words).scratch ≡ replicate (length scratch) 0
+  planned_scratch = scratch_cleared.0
+
+  pub planned_words : (planned l plan scratch words).words ≡ replicate (length words) 0
+  planned_words = scratch_cleared.1
+
 -- a list that was cleared behind a call is clear as before it
 pub clear_behind : {rest : List ℕ} (mid l : List ℕ) → rest ≡ cleared mid → length mid ≡ length l → rest ≡ cleared l
 clear_behind mid l e size = e ∙ ap (λ (k : ℕ). replicate k 0) size

@@ -67,6 +67,7 @@ fn find_plan(
 // The plan of least cost from the initial state, of these one with the fewest steps, of these the first by operator numbers from the front. Scratch
 // of F + E bytes and of four words for each state, of any content, ends as 0. Cost: the check of the tables once; each state is taken at most once,
 // and then costs F + E + O and the walks where lists of the same cost and length are compared.
+#[tactic(auto, using(crate::proofs::Calls::planned_clear, crate::proofs::Calls::planned_scratch, crate::proofs::Calls::planned_words))]
 pub fn cheapest(
     tables: &Tables<'_>,
     plan: &mut [u16],
