@@ -1,6 +1,8 @@
 -- `take` gives what `took` gives, each way out by a law of Taking. Assumes nothing.
 use native.Mathlib.Omega.{arith}
-use mathlib.Core.Path.{refl}
+use mathlib.Core.Path.{◌≡◌, refl}
+use Rattle.task.specs.Lending.{operator_of}
+use Rattle.task.specs.Run.{charge_of}
 use Rattle.task.proofs.Refusals.{number_some}
 use Rattle.operator_step.proofs.Taking.{valuable, asked-below, stays, conditions-ready, carried-out, refused}
 use Rattle.operator_step.proofs.Scratching.{scratch_stopped, scratch_done}
@@ -35,8 +37,9 @@ returns c =
     let n = c.args.number in
     let held = c.holds-applicable in
     let same = held.auto.scratch in
+    let charged : c.charge.result ≡ charge_of (operator_of c.asked-operator.result) = cc in
     record {
-      takes = rw c.charge.ensures
+      takes = rw charged
           (carried-out c.requires n c.asked-operator.ensures held.ensures.value c.in_ok-stop_of.ensures refl held.new.scratch same held.ensures.valued.known _ _ c.carry_out.ensures
           (omega arith));
       scratched =
