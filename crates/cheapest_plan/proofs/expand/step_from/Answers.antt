@@ -36,7 +36,7 @@ relax-requires c =
     let asked = ap (λ (o : Operator). o.precondition) row in
     let changes = ap (λ (o : Operator). o.effect) row in
     let charged = c.charge.ensures ∙ ap charge_of row in
-    (pre.roomy, relaxable pre.stage pre.stepping c.requires.0 asked c.if-origin-operator-eq0.false changes charged c.next_code.ensures)
+    (pre.roomy, relaxable pre.stage pre.stepping c.requires.0 asked c.if-origin-operator-eq0.false changes (omega (arith, charged)) c.next_code.ensures)
 
 pub returns : goal.returns
 returns c =
@@ -47,5 +47,5 @@ returns c =
     let charged = c.charge.ensures ∙ ap charge_of row in
     record {
       zeros = relaxed.zeros;
-      told = λ h at. stepped-on h at c.requires.0 asked c.if-origin-operator-eq0.false changes charged c.next_code.ensures relaxed;
+      told = λ h at. stepped-on h at c.requires.0 asked c.if-origin-operator-eq0.false changes (omega (arith, charged)) c.next_code.ensures relaxed;
     }
