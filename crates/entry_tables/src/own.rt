@@ -1,5 +1,5 @@
 // Tables that a file is read through.
-ghost use Rattle.std.specs.Prelude.{◌≡◌};
+ghost use Rattle.std.specs.Prelude.{◌≡◌, replicate};
 ghost use Rattle.task_file.specs.Outcome.{lengths};
 ghost use Rattle.entry_tables.specs.Inner.Answers.{ReadInto};
 
@@ -37,7 +37,13 @@ impl<const TWINS: usize, const WORDS: usize, const OPERATORS: usize> OwnTables<
     OPERATORS,
 > {
     // All 0. Linear in the sizes.
-    pub fn new() -> OwnTables<TWINS, WORDS, OPERATORS> {
+    pub fn new() -> OwnTables<TWINS, WORDS, OPERATORS>
+        ensures initial { result.initial ≡ replicate 512 0 }
+        ensures twins { result.twins ≡ replicate TWINS 0 }
+        ensures formulas { result.formulas ≡ replicate WORDS 0 }
+        ensures effects { result.effects ≡ replicate WORDS 0 }
+        ensures operators { result.operators ≡ replicate OPERATORS 0 }
+    {
         OwnTables {
             initial: [0; 512],
             twins: [0; TWINS],
