@@ -229,7 +229,7 @@ module _ {frame : Frame} {formulas effects notes : List ℕ} {t : Target} {at : 
             pub both-join-asks : AsksJoin frame notes₂ e (size_of r) after l.row r.row
             both-join-asks =
                 let m = y.builds.done k in
-                record { looks = looks a (y.noted k).columns; rows = record { ready = m.ready; left = left-stands; right = m.below } }
+                record { looks = looks a (y.noted k).columns; ready = m.ready; left = left-stands; right = m.below }
 
             pub both-done :
                 {notes₃ : List ℕ} {last : Store} {z : Step}
@@ -313,7 +313,9 @@ module _ {frame : Frame} {formulas effects notes : List ℕ} {t : Target} {at : 
                 let m = y.builds.done k in
                 record {
                   looks = looks a (x.noted g).columns;
-                  rows = record { ready = m.ready; left = m.below; right = omega (arith, (x.builds.done g).below, m.grew) };
+                  ready = m.ready;
+                  left = m.below;
+                  right = omega (arith, (x.builds.done g).below, m.grew);
                 }
 
             pub under-done :

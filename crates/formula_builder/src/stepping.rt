@@ -1,7 +1,7 @@
 // The steps of a builder: rows, joins of two rows, and their folding, and twins.
 ghost use Rattle.std.specs.Prelude.{◌≡◌, ◌<◌};
 ghost use Rattle.normal_form.specs.Builder.{row as row-built, variable_row, twin_row, join as join-built, image_of_false as false_row, image_of_true as true_row, join_kind};
-ghost use Rattle.formula_builder.specs.Inner.Held.{row_of, side, size_in, store_in, BuilderReady, JoinReady, Built, SameTwins};
+ghost use Rattle.formula_builder.specs.Inner.Held.{row_of, side, RowsReady, BuilderReady, JoinReady, Built, Same, SameTwins};
 
 use crate::rows::{append_row, find_word};
 use crate::{Builder, NoRoom, Words};
@@ -35,8 +35,9 @@ fn join_kind(or: bool) -> u16
 impl Builder<'_> {
     // The row with these words, whether it stands or is appended. Costs what finding it does.
     pub fn row(&mut self, words: Words) -> Result<u16, NoRoom>
-        requires { BuilderReady self.old }
-        ensures built { Built (row-built (row_of words)) self.old self.new result }
+        requires { RowsReady self.old.frame.rows self.old.rows self.old.table.now }
+        ensures built { BuilderReady self.old → Built (row-built (row_of words)) self.old self.new result }
+        ensures same { Same self.old self.new }
         ensures twins { SameTwins self.old self.new }
     {
         let most = self.frame.rows;
@@ -70,8 +71,10 @@ impl Builder<'_> {
 
     // The join of rows l and r, "and" or "or". Costs what putting the row does.
     pub fn join(&mut self, or: bool, l: u16, r: u16) -> Result<u16, NoRoom>
-        requires { JoinReady self.old.frame (size_in self.old) (store_in self.old) l r }
-        ensures { Built (join-built (side or) l r) self.old self.new result }
+        requires { JoinReady self.old.frame.rows self.old.rows self.old.table.now l r }
+        ensures built { BuilderReady self.old → Built (join-built (side or) l r) self.old self.new result }
+        ensures same { Same self.old self.new }
+        ensures twins { SameTwins self.old self.new }
     {
         let none = falsity(or);
         let all = truth(or);

@@ -13,7 +13,7 @@ use Rattle.formula_builder.specs.declared.Words.{Words}
 use Rattle.formula_builder.specs.declared.Frame.{Frame}
 use Rattle.formula_builder.specs.declared.NoRoom.{NoRoom}
 use Rattle.formula_builder.specs.declared.Builder.{Builder}
-use Rattle.formula_builder.specs.Inner.Held.{Size, Step, Store, row_of, side, size_of, size_in, store_in, JoinReady, Built}
+use Rattle.formula_builder.specs.Inner.Held.{Size, Step, Store, row_of, side, size_of, JoinReady, BuilderReady, Built}
 use Rattle.formula_builder.proofs.Steps.{builds_as, builds_stands, step_failed, same_itself, same_twice}
 use Rattle.images.specs.declared.ImageBuilder.{ImageBuilder}
 use Rattle.images.specs.Inner.Images.{image_at, pair_at, equivalent_at, memo_place, Asks, AsksPair, Images, image_by, AsksThere, AsksImage, SameImages, Later, Imaged}
@@ -166,16 +166,26 @@ module _ {p : Polarity} {m left right : Build ℕ} (j : Joins p m left right) {b
     right_stops y = record { images = right_full j l.images refl y.images refl; same = y.same }
 
     module _ {y : ℕ} (r : Later right b d f (Ok y)) where
-      pub join_asks : JoinReady f.builder.frame (size_in f.builder) (store_in f.builder) x y
+      ready_there : BuilderReady f.builder
+      ready_there = rw r.same.builder.frame (r.images.builds.done refl).ready
+
+      pub join_asks : JoinReady f.builder.frame.rows f.builder.rows f.builder.table.now x y
       join_asks =
           let k = l.images.builds.done refl in
           let n = r.images.builds.done refl in
-          rw r.same.builder.frame
-          (record { ready = n.ready; left = omega (arith, k.below, n.grew); right = n.below })
+          record {
+            rows = ready_there.rows;
+            two = ready_there.two;
+            left = omega (arith, k.below, n.grew);
+            right = n.below;
+          }
 
       pub joined_later :
-          {g : Builder} {z : Result ℕ NoRoom} → Built (join p x y) f.builder g z → Later m b c (record f { builder = g }) z
-      joined_later z =
+          {g : Builder} {z : Result ℕ NoRoom}
+          → (BuilderReady f.builder → Built (join p x y) f.builder g z)
+          → Later m b c (record f { builder = g }) z
+      joined_later step =
+          let z = step ready_there in
           record {
             images = joined j l.images refl r.images refl (rw (← r.same.builder.frame) z.builds);
             same =

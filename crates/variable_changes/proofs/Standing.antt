@@ -228,10 +228,10 @@ module _ {notes : List ℕ} (frame : Frame) (formulas effects : List ℕ) (at : 
       unfolding tree
       negated-full q = conditions_as freed (conditions_stop (λ c. join plain d c) (λ c. steady_join plain d c) x q)
 
-      pub negated-join-asks : n.full ≡ false → JoinReady frame (size_of n) after d n.row
+      pub negated-join-asks : n.full ≡ false → JoinReady frame.rows n.rows after.table d n.row
       negated-join-asks q =
           let k = x.builds.done q in
-          record { ready = k.ready; left = omega (arith, k.grew, row); right = k.below }
+          record { rows = k.ready.rows; two = k.ready.two; left = omega (arith, k.grew, row); right = k.below }
 
       pub negated-joined :
           {last : Store} {z : Step}

@@ -1,9 +1,9 @@
 -- The last join of each effect row, which the notes keep: what the code that joins asks and answers.
-use Rattle.std.specs.Prelude.{ℕ, ◌≡◌, Bool, false, List, eqb}
+use Rattle.std.specs.Prelude.{ℕ, ◌<◌, ◌≡◌, Bool, false, List, eqb}
 use Rattle.task.specs.Table.{row_at}
 use Rattle.normal_form.specs.Builder.{St, join}
 use Rattle.formula_builder.specs.declared.Frame.{Frame}
-use Rattle.formula_builder.specs.Inner.Held.{Size, Step, Store, held, size_of, side, JoinReady, Ready, Builds}
+use Rattle.formula_builder.specs.Inner.Held.{Size, Step, Store, held, size_of, side, Ready, Builds}
 use Rattle.images.specs.Inner.Images.{Known}
 use Rattle.conditions.specs.declared.Target.{Target}
 use Rattle.conditions.specs.Inner.Conditions.{join_of, Noted, Looks}
@@ -27,7 +27,9 @@ pub record KeepsJoin (frame : Frame) (notes notes' : List ℕ) (t : Target) (e l
 -- What joining rows l and r for row e asks.
 pub record AsksJoin (frame : Frame) (notes : List ℕ) (e : ℕ) (at : Size) (before : Store) (l r : ℕ) : Type 0 where
   pub looks : Looks frame notes e
-  pub rows : JoinReady frame at before l r
+  pub ready : Ready frame at before
+  pub left : l < at.rows
+  pub right : r < at.rows
 
 -- The notes are right, and a plain target's flag is that of row e's join.
 pub record JoinsAs (frame : Frame) (formulas effects notes : List ℕ) (t : Target) (e : ℕ) (or : Bool) (at : Size) (before : Store) : Type 0 where

@@ -80,6 +80,13 @@ pub record RowsReady (most stand : ℕ) (table : List ℕ) : Type 0 where
   pub room : 9 * most ≤ length table
   pub index : Indexed most stand table
 
+-- Beside false and true, the two rows stand that are to be joined.
+pub record JoinReady (most stand : ℕ) (table : List ℕ) (a b : ℕ) : Type 0 where
+  pub rows : RowsReady most stand table
+  pub two : 2 ≤ stand
+  pub left : a < stand
+  pub right : b < stand
+
 -- the row of a variable
 abbrev pub variable_of : ℕ → Row
 variable_of v = record { kind = 2; a = v; b = 0 }
@@ -115,12 +122,6 @@ pub record Ready (frame : Frame) (at : Size) (s : Store) : Type 0 where
 
 abbrev pub BuilderReady : Builder → Type 0
 BuilderReady b = Ready b.frame (size_in b) (store_in b)
-
--- The tables are ready, and two rows stand that are to be joined.
-pub record JoinReady (frame : Frame) (at : Size) (s : Store) (a b : ℕ) : Type 0 where
-  pub ready : Ready frame at s
-  pub left : a < at.rows
-  pub right : b < at.rows
 
 -- A state within the frame.
 pub record Within (frame : Frame) (s : St) : Type 0 where

@@ -8,4 +8,4 @@ returns-in-Some-clause-joined c = joined_kept c.in-Some.ensures
 pub returns-clause-joined : goal.returns-clause-joined
 returns-clause-joined c =
     let x = c.in_ok-x.ensures in
-    joined_made (λ _. x.builds) (rw x.same.frame at c.keep_join.ensures)
+    joined_made (λ ready. (x.built ready).builds) (rw x.same.frame at c.keep_join.ensures)

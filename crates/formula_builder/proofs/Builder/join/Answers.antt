@@ -5,10 +5,10 @@ use Rattle.formula_builder.specs.Inner.Held.{side}
 use Rattle.formula_builder.proofs.Steps.{builds_as, builds_stands, falsity_small, join_false, join_left_true, join_right_true, join_fresh, same_itself}
 use Rattle.formula_builder.proofs.Builder.join.Goals as goal
 
-pub returns-then-l-none : goal.returns-then-l-none
-returns-then-l-none c =
+pub returns-then-l-none-clause-built : goal.returns-then-l-none-clause-built
+returns-then-l-none-clause-built c =
+    λ ready.
     let p = side c.args.or in
-    let ready = c.requires.ready in
     rw c.falsity-none.ensures
     (record {
       builds =
@@ -17,32 +17,35 @@ returns-then-l-none c =
       same = same_itself c.args.self.now;
     })
 
-pub returns-then-l-all : goal.returns-then-l-all
-returns-then-l-all c =
+pub returns-then-l-all-clause-built : goal.returns-then-l-all-clause-built
+returns-then-l-all-clause-built c =
+    λ ready.
     record {
       builds =
           builds_as
           (join_left_true (side c.args.or) c.args.l c.args.r (rw c.falsity-none.ensures at c.if-l-none.false)
           (rw c.falsity-none.ensures at c.if-r-none.false) (rw c.truth-all.ensures at c.if-l-all.true))
-          (builds_stands c.args.r c.requires.ready c.requires.right);
+          (builds_stands c.args.r ready c.requires.right);
       same = same_itself c.args.self.now;
     }
 
-pub returns-then-r-all : goal.returns-then-r-all
-returns-then-r-all c =
+pub returns-then-r-all-clause-built : goal.returns-then-r-all-clause-built
+returns-then-r-all-clause-built c =
+    λ ready.
     record {
       builds =
           builds_as
           (join_right_true (side c.args.or) c.args.l c.args.r (rw c.falsity-none.ensures at c.if-l-none.false)
           (rw c.falsity-none.ensures at c.if-r-none.false) (rw c.truth-all.ensures at c.if-l-all.false)
           (rw c.truth-all.ensures at c.if-r-all.true))
-          (builds_stands c.args.l c.requires.ready c.requires.left);
+          (builds_stands c.args.l ready c.requires.left);
       same = same_itself c.args.self.now;
     }
 
-pub returns : goal.returns
-returns c =
-    let built = rw c.join_kind-kind.ensures at c.row.ensures.built in
+pub returns-clause-built : goal.returns-clause-built
+returns-clause-built c =
+    λ ready.
+    let built = rw c.join_kind-kind.ensures at (c.row.ensures.built ready) in
     record {
       builds =
           builds_as

@@ -56,7 +56,7 @@ pub pair-returns : goal.pair-returns
 pair-returns t c =
     let l = c.in_ok-l.ensures in
     joined_later (pair_joins c.requires c.read_row-w.result c.read_row-w.ensures c.args.left c.args.right c.args.or) l
-    (later l.same _ _ c.in_ok-r.ensures) c.join.ensures
+    (later l.same _ _ c.in_ok-r.ensures) c.join.ensures.built
 
 pub equivalent-returns-in_err-x : goal.equivalent-returns-in_err-x
 equivalent-returns-in_err-x t c =
@@ -86,7 +86,7 @@ equivalent-returns-in_err-l t c =
     let first = pair_joins asks w same false c.args.not false in
     let x = c.in_ok-x.ensures in
     let y = later x.same _ _ c.in_ok-y.ensures in
-    failed (left_stops whole (joined_later first x y c.in_err-l.ensures)) c.from_residual-in_err-l.ensures.0
+    failed (left_stops whole (joined_later first x y c.in_err-l.ensures.built)) c.from_residual-in_err-l.ensures.0
 
 pub equivalent-negated_image-requires : goal.equivalent-negated_image-requires
 equivalent-negated_image-requires t c =
@@ -96,7 +96,7 @@ equivalent-negated_image-requires t c =
     let first = pair_joins asks w same false c.args.not false in
     let x = c.in_ok-x.ensures in
     let y = later x.same _ _ c.in_ok-y.ensures in
-    let l = joined_later first x y c.in_ok-l.ensures in
+    let l = joined_later first x y c.in_ok-l.ensures.built in
     let again = asks_second asks l.images refl l.same.scratch_length in
     (omega (arith, left_lower asks w same), asks_here l.same (asks_left again w same))
 
@@ -109,7 +109,7 @@ equivalent-returns-in_err-z t c =
     let first = pair_joins asks w same false c.args.not false in
     let x = c.in_ok-x.ensures in
     let y = later x.same _ _ c.in_ok-y.ensures in
-    let l = joined_later first x y c.in_ok-l.ensures in
+    let l = joined_later first x y c.in_ok-l.ensures.built in
     let again = asks_second asks l.images refl l.same.scratch_length in
     let second = pair_joins again w same true (not c.args.not) false in
     failed (right_stops whole l (left_stops second (later l.same _ _ c.in_err-z.ensures))) c.from_residual-in_err-z.ensures.0
@@ -123,7 +123,7 @@ equivalent-returns-in_err-v t c =
     let first = pair_joins asks w same false c.args.not false in
     let x = c.in_ok-x.ensures in
     let y = later x.same _ _ c.in_ok-y.ensures in
-    let l = joined_later first x y c.in_ok-l.ensures in
+    let l = joined_later first x y c.in_ok-l.ensures.built in
     let again = asks_second asks l.images refl l.same.scratch_length in
     let second = pair_joins again w same true (not c.args.not) false in
     let z = later l.same _ _ c.in_ok-z.ensures in
@@ -138,12 +138,12 @@ equivalent-returns-in_err-r t c =
     let first = pair_joins asks w same false c.args.not false in
     let x = c.in_ok-x.ensures in
     let y = later x.same _ _ c.in_ok-y.ensures in
-    let l = joined_later first x y c.in_ok-l.ensures in
+    let l = joined_later first x y c.in_ok-l.ensures.built in
     let again = asks_second asks l.images refl l.same.scratch_length in
     let second = pair_joins again w same true (not c.args.not) false in
     let z = later l.same _ _ c.in_ok-z.ensures in
     let v = later z.same _ _ c.in_ok-v.ensures in
-    failed (right_stops whole l (joined_later second z v c.in_err-r.ensures)) c.from_residual-in_err-r.ensures.0
+    failed (right_stops whole l (joined_later second z v c.in_err-r.ensures.built)) c.from_residual-in_err-r.ensures.0
 
 pub equivalent-returns : goal.equivalent-returns
 equivalent-returns t c =
@@ -154,13 +154,13 @@ equivalent-returns t c =
     let first = pair_joins asks w same false c.args.not false in
     let x = c.in_ok-x.ensures in
     let y = later x.same _ _ c.in_ok-y.ensures in
-    let l = joined_later first x y c.in_ok-l.ensures in
+    let l = joined_later first x y c.in_ok-l.ensures.built in
     let again = asks_second asks l.images refl l.same.scratch_length in
     let second = pair_joins again w same true (not c.args.not) false in
     let z = later l.same _ _ c.in_ok-z.ensures in
     let v = later z.same _ _ c.in_ok-v.ensures in
-    let r = joined_later second z v c.in_ok-r.ensures in
-    joined_later whole l r c.join-3.ensures
+    let r = joined_later second z v c.in_ok-r.ensures.built in
+    joined_later whole l r c.join-3.ensures.built
 
 pub step-formula_kind-requires : goal.step-formula_kind-requires
 step-formula_kind-requires t c = known c.requires c.read_row-w.result c.read_row-w.ensures

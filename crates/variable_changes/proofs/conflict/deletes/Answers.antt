@@ -38,11 +38,12 @@ returns c =
     let b = c.args.b.now in
     let n = c.in_ok-n.ensures in
     let same = n.same.images in
+    let ready = (n.conditions.builds.done refl).ready in
     record {
       conditions =
           negated-joined b.images.builder.frame b.images.formulas.now b.effects.now (size_in b.images.builder) (store_in b.images.builder) b.images.scratch.now
           c.args.e c.args.v c.args.adds c.args.deletes c.requires.stands c.requires.row c.if-adds-eq0.false
-          c.if-deletes-eq0.false n.conditions refl (rw (← same.builder.frame) c.join.ensures.builds);
+          c.if-deletes-eq0.false n.conditions refl (rw (← same.builder.frame) (c.join.ensures.built (rw same.builder.frame ready)).builds);
       same =
           record {
             images =
