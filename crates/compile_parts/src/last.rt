@@ -1,4 +1,4 @@
-// All that is written, once everything is built: rules, operators, initial values, rows, twins.
+// All that is written, once everything is built: rules, operators, initial values, rows.
 ghost use Rattle.formula_builder.specs.Inner.Held.{done_step, size_in};
 ghost use Rattle.compile_parts.specs.Inner.Finishes.{outputs, Stands, Finished};
 
@@ -7,8 +7,8 @@ use assembling::assemble_operators;
 use formula_builder::Builder;
 use rule_writer::{Frame, write_initial};
 
-// Writes the rules and the operators, then the initial values, and copies the rows and the twins that were built; with no room for all rules
-// nothing of these three. Costs one step for each change that was recorded, each variable and each row.
+// Writes the rules and the operators, then the initial values, and copies the rows that were built; with no room for all rules nothing of
+// these two. Costs one step for each change that was recorded, each variable and each row.
 pub fn finish(
     counts: Counts,
     b: &Builder<'_>,
@@ -17,13 +17,12 @@ pub fn finish(
     operators: &[u16],
     records: &[u16],
     values: &mut [u8],
-    originals: &mut [u16],
     table: &mut [u16],
     out: &mut [u16],
     written: &mut [u16],
 ) -> Result<Filled, NoRoom>
-    requires { Stands counts (done_step (size_in b.now) goal) initial.now operators.now b.now.originals.now b.now.table.now records.now (outputs values.old originals.old table.old out.old written.old) }
-    ensures { Finished counts (done_step (size_in b.now) goal) initial.now operators.now b.now.originals.now b.now.table.now records.now (outputs values.old originals.old table.old out.old written.old) (outputs values.new originals.new table.new out.new written.new) result }
+    requires { Stands counts (done_step (size_in b.now) goal) initial.now operators.now b.now.originals.now b.now.table.now records.now (outputs values.old table.old out.old written.old) }
+    ensures { Finished counts (done_step (size_in b.now) goal) initial.now operators.now b.now.originals.now b.now.table.now records.now (outputs values.old table.old out.old written.old) (outputs values.new table.new out.new written.new) result }
 {
     let variables = counts.frame.variables;
     let twins = b.twins;
@@ -43,7 +42,6 @@ pub fn finish(
     write_initial(initial, b.originals, values, variables, twins);
     let words = 3 * b.rows;
     table[..words].copy_from_slice(&b.table[..words]);
-    originals[..twins].copy_from_slice(&b.originals[..twins]);
     Ok(Filled {
         rows: b.rows as u16,
         twins: twins as u16,

@@ -30,7 +30,7 @@ use Rattle.assembling.specs.Inner.Assembles.{Holding}
 use Rattle.compile_parts.specs.declared.Filled.{Filled}
 use Rattle.compile_parts.specs.Inner.Builds.{Builds}
 use Rattle.compile_parts.specs.Inner.Finishes.{Outputs, outputs, rules_of, Stands, Ended, Finished}
-use Rattle.compiler.specs.Inner.Fills.{Blanked, Counted, counts, lent_of, Begins, Holds, Unfilled, Tries}
+use Rattle.compiler.specs.Inner.Fills.{Blanked, Counted, counts, lent_of, Begins, TwinsCopied, Holds, Unfilled, Tries}
 use Rattle.compiler.specs.Tables.{Tables, tables, room_of}
 use Rattle.compile_parts.proofs.Asked.{zero_at}
 use Rattle.compiler.proofs.Cleared.{zeros, cleared_again}
@@ -41,7 +41,7 @@ use Rattle.compiler.proofs.Linked.{its_formulas, its_effects, precondition_below
 
 -- the lent tables that finishing writes
 abbrev pub written_of : Tables → Outputs
-written_of x = outputs x.initial x.twins x.formulas x.effects x.operators
+written_of x = outputs x.initial x.formulas x.effects x.operators
 
 module _ {g : Counted} {x : Tables} (b : Begins g x) where
   abbrev t : Task
@@ -173,7 +173,6 @@ module _ {g : Counted} {x : Tables} (b : Begins g x) where
           limit = omega (arith, ready.rows.within, ready.rows.limit);
           there = rows-there;
           space = rows_fit;
-          twins_space = omega (arith, ready.twins, b.twins_space);
         }
 
     rules-are : rules_of (counts g) r g.operators mid.originals records ≡ assembled (task_of (lent_of g))
@@ -256,17 +255,18 @@ module _ {g : Counted} {x : Tables} (b : Begins g x) where
           words_long = ap length words_are ∙ finished_variables t ∙ ap₂ (λ (m n : ℕ). m + n) variables_are twins-many
 
       it-holds :
-          {memo2 : List ℕ}
+          {twins2 memo2 : List ℕ}
           → length y.effects ≡ length x.effects
           → length y.operators ≡ length x.operators
-          → Holds (lent_of g) x (tables y.values y.twins y.table y.effects y.operators memo2) z
-      it-holds long-out long-outs =
+          → twins2 ≡ take r.twins mid.originals ++ drop r.twins x.twins
+          → Holds (lent_of g) x (tables y.values twins2 y.table y.effects y.operators memo2) z
+      it-holds long-out long-outs copied =
           record {
             fits = it-fits;
             head = heads ∙ ap (λ (n : Filled). record { variables = g.frame.variables + n.twins; twins = n.twins; formulas = n.rows; effects = n.effects; operators = g.count; goal = n.goal }) (sym e.answer);
             initial = initial-words;
             twins =
-                e.twins
+                copied
                 ∙ ap (λ (m : List ℕ). take r.twins mid.originals ++ drop r.twins m) b.blank.twins
                 ∙ padded_over (length x.twins) (take r.twins mid.originals) r.twins many-twins
                 ∙ ap (padded (length x.twins)) twins-are;
@@ -278,9 +278,12 @@ module _ {g : Counted} {x : Tables} (b : Begins g x) where
             operators = unfold finished in (h.held_operators ∙ ap (λ (m : ℕ). padded m (operator_words (assembled t).operators)) long-outs);
           }
 
-    -- what finishing asks
-    pub finish_asks : length records ≡ length (replicate {A = ℕ} 6912 0) → Stands (counts g) r g.initial g.operators mid.originals mid.table records (written_of x)
-    finish_asks space = stands (omega (arith, space, length-replicate {A = ℕ} 6912 0))
+    -- what finishing asks, and copying the twins
+    pub finish_asks :
+        length records ≡ length (replicate {A = ℕ} 6912 0)
+        → Stands (counts g) r g.initial g.operators mid.originals mid.table records (written_of x) × (r.twins ≤ length x.twins)
+    finish_asks space =
+        (stands (omega (arith, space, length-replicate {A = ℕ} 6912 0)), omega (arith, ready.twins, b.twins_space))
 
     -- and what it leaves
     module _ (y : Outputs) where
@@ -296,14 +299,15 @@ module _ {g : Counted} {x : Tables} (b : Begins g x) where
           few = unfold finished in a.effects_allowed (length (assembled t).effects) fit.limits.effects fit.tables.effects
 
       pub tried_done :
-          {E : Type 0} (memo2 : List ℕ) (z : Result Filled E)
+          {E : Type 0} (twins2 memo2 : List ℕ) (z : Result Filled E)
           → is_err z ≡ false
           → length y.effects ≡ length x.effects
           → length y.operators ≡ length x.operators
           → Finished (counts g) r g.initial g.operators mid.originals mid.table records (written_of x) y z
-          → Tries g x (tables y.values y.twins y.table y.effects y.operators memo2) z
-      tried_done memo2 (Ok z) q e o k = it-holds k e o
-      tried_done memo2 (Err e) q _ o k = absurd (true≢false q)
+          → TwinsCopied r.twins mid.originals x.twins twins2 z
+          → Tries g x (tables y.values twins2 y.table y.effects y.operators memo2) z
+      tried_done twins2 memo2 (Ok z) q e o k copied = it-holds k e o copied
+      tried_done twins2 memo2 (Err e) q _ o k copied = absurd (true≢false q)
 
       -- without room all is cleared again
       pub tried_over :

@@ -1,7 +1,10 @@
 // Filling the lent tables, with the help of tables in the call's own frame.
+ghost use Rattle.std.specs.Prelude.{◌≤◌, length};
 ghost use Rattle.task.specs.Lending.{lent_tables};
+ghost use Rattle.formula_builder.specs.Inner.Held.{done_step, size_in};
+ghost use Rattle.compile_parts.specs.Inner.Finishes.{outputs, Stands, Finished};
 ghost use Rattle.compiler.specs.Tables.{tables};
-ghost use Rattle.compiler.specs.Inner.Fills.{counted, Enough, Roomy, Tries, Fills};
+ghost use Rattle.compiler.specs.Inner.Fills.{counted, Enough, Roomy, TwinsCopied, Tries, Fills};
 
 use crate::clear::clear_all;
 use crate::layout::{LARGE_BUILT, LARGE_NOTES, MOST_VARIABLES, RECORDS, SMALL_BUILT, SMALL_NOTES};
@@ -11,6 +14,40 @@ use conditions::ConditionBuilder;
 use formula_builder::Builder;
 use images::ImageBuilder;
 use task::tables::Tables;
+
+// Finishes, and copies the twins that were built; with no room for all rules these stay out. Costs what finish does, and a step for each twin.
+fn finish_all(
+    counts: Counts,
+    b: &Builder<'_>,
+    goal: u16,
+    source: &Tables<'_>,
+    records: &[u16],
+    values: &mut [u8],
+    originals: &mut [u16],
+    table: &mut [u16],
+    out: &mut [u16],
+    written: &mut [u16],
+) -> Result<Filled, NoRoom>
+    requires { Stands counts (done_step (size_in b.now) goal) (lent_tables source.now).initial (lent_tables source.now).operators b.now.originals.now b.now.table.now records.now (outputs values.old table.old out.old written.old) × (b.now.twins ≤ length originals.old) }
+    ensures finished { Finished counts (done_step (size_in b.now) goal) (lent_tables source.now).initial (lent_tables source.now).operators b.now.originals.now b.now.table.now records.now (outputs values.old table.old out.old written.old) (outputs values.new table.new out.new written.new) result }
+    ensures twins { TwinsCopied b.now.twins b.now.originals.now originals.old originals.new result }
+{
+    let filled = finish(
+        counts,
+        b,
+        goal,
+        source.initial,
+        source.operators,
+        records,
+        values,
+        table,
+        out,
+        written,
+    )?;
+    let twins = b.twins;
+    originals[..twins].copy_from_slice(&b.originals[..twins]);
+    Ok(filled)
+}
 
 // A source, with a frame of so many words for rows and for notes. After no room, which says nothing of the task if fewer rows are counted than
 // the lent tables hold, the lent tables are all 0 again. Costs clearing the frame, and what build and finish do. It stays out of line, since
@@ -34,7 +71,6 @@ fn fill_in<const BUILT: usize, const NOTES: usize>(
     let mut twins = [0u16; MOST_VARIABLES];
     let mut records = [0u16; RECORDS];
     let mut notes = [0u16; NOTES];
-    let operators = source.operators;
     let builder = Builder {
         frame: counts.frame,
         rows: 0,
@@ -52,13 +88,12 @@ fn fill_in<const BUILT: usize, const NOTES: usize>(
         notes: &mut notes,
         images,
     };
-    let filled = match build(&mut conditions, counts, operators, &mut records) {
-        Ok(goal) => finish(
+    let filled = match build(&mut conditions, counts, source.operators, &mut records) {
+        Ok(goal) => finish_all(
             counts,
             &conditions.images.builder,
             goal,
-            source.initial,
-            operators,
+            source,
             &records,
             values,
             originals,

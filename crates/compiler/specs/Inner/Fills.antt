@@ -1,5 +1,5 @@
 -- Filling the lent tables: what it asks, and what it leaves.
-use Rattle.std.specs.Prelude.{ℕ, ◌+◌, ◌*◌, ◌≤◌, ◌≡◌, List, [], length, replicate, Result, Ok, Err}
+use Rattle.std.specs.Prelude.{ℕ, ◌+◌, ◌*◌, ◌≤◌, ◌≡◌, List, [], ◌++◌, length, take, drop, replicate, Result, Ok, Err}
 use Rattle.task.specs.declared.Head.{Head}
 use Rattle.task.specs.Table.{Lent, lent, task_of, operator_width}
 use Rattle.task.specs.Check.{refusal}
@@ -90,6 +90,11 @@ pub record Enough (built notes : ℕ) (g : Counted) (x : Tables) : Type 0 where
   pub notes_limit : notes ≤ 610304
   pub rows_fit : 9 * g.frame.rows + g.frame.variables ≤ built
   pub notes_fit : sets_end g.frame ≤ notes
+
+-- So many twins are copied to the front of the lent table; with no room it stays.
+abbrev pub TwinsCopied : {E : Type 0} → ℕ → (originals before after : List ℕ) → Result Filled E → Type 0
+TwinsCopied w originals before after (Ok r) = after ≡ take w originals ++ drop w before
+TwinsCopied w originals before after (Err e) = after ≡ before
 
 -- the head of the compiled task: operators keep their number
 abbrev pub head_after : Head → Filled → Head

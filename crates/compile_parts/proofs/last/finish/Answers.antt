@@ -24,7 +24,7 @@ assemble_operators-requires c = (c.requires.assembles, c.requires.twinned)
 pub returns-in_err-effects : goal.returns-in_err-effects
 returns-in_err-effects c =
     onward c.args.initial.now c.args.b.now.table.now c.from_residual.result c.in_err-effects.field-0.0 c.from_residual.ensures.1
-    (record { misfit = λ fits. c.in_err-effects.ensures fits; values = refl; table = refl; twins = refl })
+    (record { misfit = λ fits. c.in_err-effects.ensures fits; values = refl; table = refl })
 
 pub returns : goal.returns
 returns c =
@@ -32,12 +32,10 @@ returns c =
     let made = c.in_ok-effects.ensures in
     let words = 3 * b.rows in
     let copied : c.copy_from_slice.new.self ≡ take words b.table.now = search rules in
-    let twins : c.copy_from_slice-2.new.self ≡ take b.twins b.originals.now = search rules in
     record {
       holding = made.done;
       within = made.within;
       values = c.write_initial.ensures;
       table = ap (λ (front : List ℕ). front ++ drop words c.args.table.now) copied;
-      twins = ap (λ (front : List ℕ). front ++ drop b.twins c.args.originals.now) twins;
       answer = refl;
     }
