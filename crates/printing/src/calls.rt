@@ -27,8 +27,10 @@ fn settled(out: &mut [u8], size: usize) -> Result<usize, Refusal>
 pub fn print(tables: &Tables<'_>, out: &mut [u8]) -> Result<usize, Refusal>
     ensures { PrintGives (printing (lent_tables tables.now) (length out.old)) (print_answered result) out.new }
 {
-    out.fill(0);
-    check(tables)?;
+    if let Err(refusal) = check(tables) {
+        out.fill(0);
+        return Err(refusal);
+    }
     let size = task_lines(out, tables);
     settled(out, size)
 }
