@@ -38,7 +38,7 @@ pub fn put_word(out: &mut [u8], at: usize, w: u16) -> usize
 
 // A field: nothing for its default. Constant time.
 #[tactic(auto, using(crate::proofs::Puts::put_none), unfolding(file_format::specs::Bytes::field_bytes))]
-fn put_field(out: &mut [u8], at: usize, w: u16, default: u16) -> usize
+pub fn put_field(out: &mut [u8], at: usize, w: u16, default: u16) -> usize
     requires { at ≤ 1800000 }
     ensures { Put (field_bytes default w) at result out.old out.new }
 {
