@@ -6,6 +6,7 @@ use crate::{Counts, Filled, NoRoom};
 use assembling::assemble_operators;
 use formula_builder::Builder;
 use rule_writer::{Frame, write_initial};
+use task::copying::copy_all;
 
 // Writes the rules and the operators, then the initial values, and copies the rows that were built; with no room for all rules nothing of
 // these two. Costs one step for each change that was recorded, each variable and each row.
@@ -41,7 +42,7 @@ pub fn finish(
     )?;
     write_initial(initial, b.originals, values, variables, twins);
     let words = 3 * b.rows;
-    table[..words].copy_from_slice(&b.table[..words]);
+    copy_all(&mut table[..words], &b.table[..words]);
     Ok(Filled {
         rows: b.rows as u16,
         twins: twins as u16,

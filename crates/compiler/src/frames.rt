@@ -13,6 +13,7 @@ use compile_parts::{Counts, Filled, NoRoom, build, finish};
 use conditions::ConditionBuilder;
 use formula_builder::Builder;
 use images::ImageBuilder;
+use task::copying::copy_all;
 use task::tables::Tables;
 
 // Finishes, and copies the twins that were built; with no room for all rules these stay out. Costs what finish does, and a step for each twin.
@@ -45,7 +46,7 @@ fn finish_all(
         written,
     )?;
     let twins = b.twins;
-    originals[..twins].copy_from_slice(&b.originals[..twins]);
+    copy_all(&mut originals[..twins], &b.originals[..twins]);
     Ok(filled)
 }
 

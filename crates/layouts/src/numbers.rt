@@ -37,7 +37,9 @@ pub fn refused_run(
     refuse_unless(16 <= room, Refusal::ShortOutput)
 }
 
-// The operator numbers of a sequence of bytes, into the front of `numbers`; what stands behind them stays. Linear.
+// The operator numbers of a sequence of bytes, into the front of `numbers`; what stands behind them stays. Linear. It stays out of line: in a caller whose
+// own array `numbers` is, the backend makes the loop a call of memcpy, which the archive for C would need from outside.
+#[inline(never)]
 pub fn decode(sequence: &[u8], numbers: &mut [u16])
     requires { length sequence.now / 2 ≤ length numbers.old }
     ensures { numbers.new ≡ numbers_of sequence.now ++ drop (length sequence.now / 2) numbers.old }

@@ -2,6 +2,7 @@
 #![tactic(auto)]
 
 pub mod check;
+pub mod copying;
 pub mod counts;
 pub mod kinds;
 pub mod lengths;

@@ -6,6 +6,7 @@ ghost use Rattle.task.specs.Table.{lent};
 ghost use Rattle.test_calls.specs.Buffers.{told_words, head_words};
 
 use task::Head;
+use task::copying::copy_all;
 use task::refusal::Refusal;
 use task::tables::Tables;
 
@@ -68,7 +69,7 @@ pub fn tell<T: Copy>(buffer: &mut [T], words: &[T])
     ensures { buffer.new ≡ told_words words.now buffer.old }
 {
     if buffer.len() == words.len() {
-        buffer.copy_from_slice(words);
+        copy_all(buffer, words);
     }
 }
 

@@ -31,7 +31,7 @@ returns c =
     let b = c.args.b.now in
     let made = c.in_ok-effects.ensures in
     let words = 3 * b.rows in
-    let copied : c.copy_from_slice.new.self ≡ take words b.table.now = search rules in
+    let copied : c.copy_all.new.out ≡ take words b.table.now = search rules in
     record {
       holding = made.done;
       within = made.within;

@@ -6,5 +6,5 @@ use Rattle.compiler.proofs.frames.finish_all.Goals as goal
 pub returns-clause-twins : goal.returns-clause-twins
 returns-clause-twins c =
     let b = c.args.b.now in
-    let copied : c.copy_from_slice.new.self ≡ take b.twins b.originals.now = search rules in
+    let copied : c.copy_all.new.out ≡ take b.twins b.originals.now = search rules in
     ap (λ (front : List ℕ). front ++ drop b.twins c.args.originals.now) copied

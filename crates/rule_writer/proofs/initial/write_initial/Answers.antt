@@ -15,13 +15,13 @@ loop-k-preserved c =
     let below : c.loop-k.k < a.w = omega (arith, length-take-le a.w a.originals.now c.requires.twins) in
     rw (get_or-take a.w a.originals.now c.loop-k.k 0 below)
     (opposed_more a.source.now a.originals.now a.out.now a.v a.w c.requires _ c.loop-k.out c.loop-k.k
-    (ap (λ (l : List _). l ++ drop a.v a.out.now) c.copy_from_slice.ensures.after) c.loop-k.invariant below)
+    (ap (λ (l : List _). l ++ drop a.v a.out.now) c.copy_all.ensures) c.loop-k.invariant below)
 
 pub returns : goal.returns
 returns c =
     let a = c.args in
-    let start = c.copy_from_slice.new.self ++ drop a.v a.out.now in
+    let start = c.copy_all.new.out ++ drop a.v a.out.now in
     let all : c.loop-k.k ≡ a.w = omega (arith, length-take-le a.w a.originals.now c.requires.twins) in
     values_written a.source.now a.originals.now a.out.now a.v a.w c.requires start c.loop-k.out
-    (ap (λ (l : List _). l ++ drop a.v a.out.now) c.copy_from_slice.ensures.after)
+    (ap (λ (l : List _). l ++ drop a.v a.out.now) c.copy_all.ensures)
     (c.loop-k.invariant ∙ ap (paste start a.v (twin_values (take a.v a.source.now) (take a.w a.originals.now))) all)
