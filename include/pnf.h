@@ -104,7 +104,7 @@ enum {
 
 /*
  * Measured by tests/client/stack.c, on 4,096 formulas and 4,096 effects nested as deep as they
- * go: pnf_compile takes 4,137,712 bytes, pnf_run 192,888, pnf_plan 97,592, pnf_read 53,338.
+ * go: pnf_compile takes 2,120,408 bytes, pnf_run 192,608, pnf_plan 98,384, pnf_read 53,064.
  */
 #define PNF_STACK_BYTES (11u * 512u * 1024u)
 
