@@ -2,3 +2,4 @@
 pub mod Batches
 pub mod Builds
 pub mod Finishes
+pub mod FinishesBare

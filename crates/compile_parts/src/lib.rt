@@ -3,11 +3,13 @@
 
 mod batch;
 mod last;
+#[cfg(test)]
+mod tests;
 mod whole;
 
 use formula_builder::Frame;
 pub use formula_builder::NoRoom;
-pub use last::finish;
+pub use last::{finish, finish_bare};
 pub use whole::build;
 
 // The source's counts and how much there is room for: in the frame its variables, formulas and effects, and room for rows and twins; then its

@@ -29,7 +29,8 @@ use Rattle.building.specs.Inner.Taken.{Blank, Whole, FromStart}
 use Rattle.assembling.specs.Inner.Assembles.{Holding}
 use Rattle.compile_parts.specs.declared.Filled.{Filled}
 use Rattle.compile_parts.specs.Inner.Builds.{Builds}
-use Rattle.compile_parts.specs.Inner.Finishes.{Outputs, outputs, rules_of, Stands, Ended, Finished}
+use Rattle.compile_parts.specs.Inner.Finishes.{rules_of}
+use Rattle.compile_parts.specs.Inner.FinishesBare.{BareOutputs, bare_outputs, BareStands, BareEnded, BareFinished}
 use Rattle.compiler.specs.Inner.Fills.{Blanked, Counted, counts, lent_of, Begins, TwinsCopied, Holds, Unfilled, Tries}
 use Rattle.compiler.specs.Tables.{Tables, tables, room_of}
 use Rattle.compile_parts.proofs.Asked.{zero_at}
@@ -40,8 +41,8 @@ use Rattle.compiler.proofs.Recalled.{in_order}
 use Rattle.compiler.proofs.Linked.{its_formulas, its_effects, precondition_below, effect_below, goal_below, state_built, goal_built, assembled_is, few_changes}
 
 -- the lent tables that finishing writes
-abbrev pub written_of : Tables → Outputs
-written_of x = outputs x.initial x.formulas x.effects x.operators
+abbrev pub written_of : Tables → BareOutputs
+written_of x = bare_outputs x.initial x.formulas x.effects x.operators
 
 module _ {g : Counted} {x : Tables} (b : Begins g x) where
   abbrev t : Task
@@ -142,7 +143,7 @@ module _ {g : Counted} {x : Tables} (b : Begins g x) where
     rows_fit : 3 * r.rows ≤ length x.formulas
     rows_fit = omega (arith, ready.rows.within, b.rows_space)
 
-    stands : 6912 ≤ length records → Stands (counts g) r g.initial g.operators mid.originals mid.table records (written_of x)
+    stands : 6912 ≤ length records → BareStands (counts g) r g.initial g.operators mid.originals mid.table records (written_of x)
     stands space =
         let s = source (lent_of g) b.passes in
         record {
@@ -194,7 +195,7 @@ module _ {g : Counted} {x : Tables} (b : Begins g x) where
     twins-many = ap length (sym twins-are) ∙ many-twins
 
     -- Behind finishing.
-    module _ {y : Outputs} {z : Filled} (e : Ended (counts g) r g.initial g.operators mid.originals mid.table records (written_of x) y z) where
+    module _ {y : BareOutputs} {z : Filled} (e : BareEnded (counts g) r g.initial g.operators mid.originals mid.table records (written_of x) y z) where
       h : Holding (assembled (task_of (lent_of g))) z.effects g.count y.effects y.operators
       h = rw rules-are at e.holding
 
@@ -281,15 +282,15 @@ module _ {g : Counted} {x : Tables} (b : Begins g x) where
     -- what finishing asks, and copying the twins
     pub finish_asks :
         length records ≡ length (replicate {A = ℕ} 6912 0)
-        → Stands (counts g) r g.initial g.operators mid.originals mid.table records (written_of x) × (r.twins ≤ length x.twins)
+        → BareStands (counts g) r g.initial g.operators mid.originals mid.table records (written_of x) × (r.twins ≤ length x.twins)
     finish_asks space =
         (stands (omega (arith, space, length-replicate {A = ℕ} 6912 0)), omega (arith, ready.twins, b.twins_space))
 
     -- and what it leaves
-    module _ (y : Outputs) where
+    module _ (y : BareOutputs) where
       misfits :
           {E : Type 0} (e : E)
-          → Finished (counts g) r g.initial g.operators mid.originals mid.table records (written_of x) y (Err e)
+          → BareFinished (counts g) r g.initial g.operators mid.originals mid.table records (written_of x) y (Err e)
           → Allows g.frame.variables (room_of x) g.frame.rows g.frame.twins g.room
           → Fits (finished (task_of (lent_of g))) (room_of x)
           → ⊥
@@ -303,7 +304,7 @@ module _ {g : Counted} {x : Tables} (b : Begins g x) where
           → is_err z ≡ false
           → length y.effects ≡ length x.effects
           → length y.operators ≡ length x.operators
-          → Finished (counts g) r g.initial g.operators mid.originals mid.table records (written_of x) y z
+          → BareFinished (counts g) r g.initial g.operators mid.originals mid.table records (written_of x) y z
           → TwinsCopied r.twins mid.originals x.twins twins2 z
           → Tries g x (tables y.values twins2 y.table y.effects y.operators memo2) z
       tried_done twins2 memo2 (Ok z) q e o k copied = it-holds k e o copied
@@ -315,7 +316,7 @@ module _ {g : Counted} {x : Tables} (b : Begins g x) where
           → is_err z ≡ true
           → room_of v ≡ room_of x
           → Blanked v w
-          → Finished (counts g) r g.initial g.operators mid.originals mid.table records (written_of x) y z
+          → BareFinished (counts g) r g.initial g.operators mid.originals mid.table records (written_of x) y z
           → Tries g x w z
       tried_over (Ok z) q _ clear k = absurd (true≢false (sym q))
       tried_over (Err e) q same clear k = record { same = cleared_again b.blank same clear; misfit = misfits e k }

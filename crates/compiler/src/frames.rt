@@ -2,21 +2,21 @@
 ghost use Rattle.std.specs.Prelude.{◌≤◌, length};
 ghost use Rattle.task.specs.Lending.{lent_tables};
 ghost use Rattle.formula_builder.specs.Inner.Held.{done_step, size_in};
-ghost use Rattle.compile_parts.specs.Inner.Finishes.{outputs, Stands, Finished};
+ghost use Rattle.compile_parts.specs.Inner.FinishesBare.{bare_outputs, BareStands, BareFinished};
 ghost use Rattle.compiler.specs.Tables.{tables};
 ghost use Rattle.compiler.specs.Inner.Fills.{counted, Enough, Roomy, TwinsCopied, Tries, Fills};
 
 use crate::clear::clear_all;
 use crate::layout::{LARGE_BUILT, LARGE_NOTES, MOST_VARIABLES, RECORDS, SMALL_BUILT, SMALL_NOTES};
 use crate::sizes::{fewer_rows, is_small};
-use compile_parts::{Counts, Filled, NoRoom, build, finish};
+use compile_parts::{Counts, Filled, NoRoom, build, finish_bare};
 use conditions::ConditionBuilder;
 use formula_builder::Builder;
 use images::ImageBuilder;
 use task::copying::copy_all;
 use task::tables::Tables;
 
-// Finishes, and copies the twins that were built; with no room for all rules these stay out. Costs what finish does, and a step for each twin.
+// Finishes, and copies the twins that were built; with no room for all rules these stay out. Costs what `finish_bare` does, and a step for each twin.
 fn finish_all(
     counts: Counts,
     b: &Builder<'_>,
@@ -29,11 +29,11 @@ fn finish_all(
     out: &mut [u16],
     written: &mut [u16],
 ) -> Result<Filled, NoRoom>
-    requires { Stands counts (done_step (size_in b.now) goal) (lent_tables source.now).initial (lent_tables source.now).operators b.now.originals.now b.now.table.now records.now (outputs values.old table.old out.old written.old) × (b.now.twins ≤ length originals.old) }
-    ensures finished { Finished counts (done_step (size_in b.now) goal) (lent_tables source.now).initial (lent_tables source.now).operators b.now.originals.now b.now.table.now records.now (outputs values.old table.old out.old written.old) (outputs values.new table.new out.new written.new) result }
+    requires { BareStands counts (done_step (size_in b.now) goal) (lent_tables source.now).initial (lent_tables source.now).operators b.now.originals.now b.now.table.now records.now (bare_outputs values.old table.old out.old written.old) × (b.now.twins ≤ length originals.old) }
+    ensures finished { BareFinished counts (done_step (size_in b.now) goal) (lent_tables source.now).initial (lent_tables source.now).operators b.now.originals.now b.now.table.now records.now (bare_outputs values.old table.old out.old written.old) (bare_outputs values.new table.new out.new written.new) result }
     ensures twins { TwinsCopied b.now.twins b.now.originals.now originals.old originals.new result }
 {
-    let filled = finish(
+    let filled = finish_bare(
         counts,
         b,
         goal,
@@ -51,7 +51,7 @@ fn finish_all(
 }
 
 // A source, with a frame of so many words for rows and for notes. After no room, which says nothing of the task if fewer rows are counted than
-// the lent tables hold, the lent tables are all 0 again. Costs clearing the frame, and what build and finish do. It stays out of line, since
+// the lent tables hold, the lent tables are all 0 again. Costs clearing the frame, and what `build` and `finish_all` do. It stays out of line, since
 // entering a function touches each page of its frame: 1.4 us for the large one. Twins are built in the frame and copied too, as the rows are:
 // of a slice that a struct within a struct holds, the proof knows nothing once the struct is gone.
 #[inline(never)]

@@ -9,15 +9,16 @@ use Rattle.assembling.specs.Inner.Assembles.{assembled_in, Holding, Assembles, T
 use Rattle.compile_parts.specs.declared.Counts.{Counts}
 use Rattle.compile_parts.specs.declared.Filled.{Filled}
 
--- the four tables that are written: initial values, formulas, effects, operators
+-- the five tables that are written: initial values, twins, formulas, effects, operators
 pub record Outputs : Type 0 where
   pub values : List ℕ
+  pub twins : List ℕ
   pub table : List ℕ
   pub effects : List ℕ
   pub operators : List ℕ
 
-abbrev pub outputs : (values table effects operators : List ℕ) → Outputs
-outputs v t e o = record { values = v; table = t; effects = e; operators = o }
+abbrev pub outputs : (values twins table effects operators : List ℕ) → Outputs
+outputs v w t e o = record { values = v; twins = w; table = t; effects = e; operators = o }
 
 -- the counts of rules: source variables, the twins that were built, and room for effect rows
 abbrev pub rules_frame : Counts → Step → Frame
@@ -36,6 +37,7 @@ pub record Stands (c : Counts) (w : Step) (initial operators originals built rec
   pub limit : w.rows ≤ 4096
   pub there : 3 * w.rows ≤ length built
   pub space : 3 * w.rows ≤ length x.table
+  pub twins_space : w.twins ≤ length x.twins
 
 -- All is written.
 pub record Ended (c : Counts) (w : Step) (initial operators originals built records : List ℕ) (x y : Outputs) (r : Filled) : Type 0 where
@@ -46,14 +48,16 @@ pub record Ended (c : Counts) (w : Step) (initial operators originals built reco
       ≡ (take c.frame.variables initial ++ twin_values (take c.frame.variables initial) (take w.twins originals))
       ++ drop (c.frame.variables + w.twins) x.values
   pub table : y.table ≡ take (3 * w.rows) built ++ drop (3 * w.rows) x.table
+  pub twins : y.twins ≡ take w.twins originals ++ drop w.twins x.twins
   pub answer : r ≡ record { rows = w.rows; twins = w.twins; effects = r.effects; goal = w.row }
 
--- There is no room for the rules. The tables of initial values and of formulas, which are written last, stay; what stands in
+-- There is no room for the rules. The tables of initial values, of twins and of formulas, which are written last, stay; what stands in
 -- the other two is left open, since `compile` then clears them.
 pub record Lacks (c : Counts) (w : Step) (operators originals records : List ℕ) (x y : Outputs) : Type 0 where
   pub misfit : length (rules_of c w operators originals records).effects ≤ c.room → ⊥
   pub values : y.values ≡ x.values
   pub table : y.table ≡ x.table
+  pub twins : y.twins ≡ x.twins
 
 abbrev pub Finished : {E : Type 0} → Counts → Step → (initial operators originals built records : List ℕ) → Outputs → Outputs → Result Filled E → Type 0
 Finished c w initial operators originals built records x y (Ok r) = Ended c w initial operators originals built records x y r

@@ -1,4 +1,4 @@
--- `finish` meets its contract: rules and operators, initial values, and the rows that were built. Assumes nothing.
+-- `finish_bare` meets its contract: rules and operators, initial values, and the rows that were built. Assumes nothing.
 use Rattle.std.proofs.Common.{rules, ℕ, ◌*◌, ◌≡◌, List, ◌++◌, take, drop}
 use mathlib.Core.Path.{refl, ap}
 use Rattle.std.specs.Prelude.{Result, Ok, Err}
@@ -6,15 +6,15 @@ use Rattle.std.specs.Result.{IsErrAnd}
 use Rattle.formula_builder.specs.Inner.Held.{Step}
 use Rattle.compile_parts.specs.declared.Counts.{Counts}
 use Rattle.compile_parts.specs.declared.Filled.{Filled}
-use Rattle.compile_parts.specs.Inner.Finishes.{Outputs, Lacks, Finished}
-use Rattle.compile_parts.proofs.last.finish.Goals as goal
+use Rattle.compile_parts.specs.Inner.FinishesBare.{BareOutputs, BareLacks, BareFinished}
+use Rattle.compile_parts.proofs.last.finish_bare.Goals as goal
 
 -- no room that `?` returns onward
 onward :
-    {E : Type 0} {k : Counts} {w : Step} {operators originals records : List ℕ} {x y : Outputs} (initial built : List ℕ) (r : Result Filled E) (e : E)
+    {E : Type 0} {k : Counts} {w : Step} {operators originals records : List ℕ} {x y : BareOutputs} (initial built : List ℕ) (r : Result Filled E) (e : E)
     → IsErrAnd r (λ z. z ≡ e)
-    → Lacks k w operators originals records x y
-    → Finished k w initial operators originals built records x y r
+    → BareLacks k w operators originals records x y
+    → BareFinished k w initial operators originals built records x y r
 onward initial built (Ok z) e given lacks = absurd given
 onward initial built (Err z) e given lacks = lacks
 
