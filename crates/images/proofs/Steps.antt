@@ -169,16 +169,19 @@ module _ {p : Polarity} {m left right : Build ℕ} (j : Joins p m left right) {b
       ready_there : BuilderReady f.builder
       ready_there = rw r.same.builder.frame (r.images.builds.done refl).ready
 
-      pub join_asks : JoinReady f.builder.frame.rows f.builder.rows f.builder.table.now x y
+      -- The builder is ready there, and its rows to be joined.
+      pub join_asks : BuilderReady f.builder × JoinReady f.builder.frame.rows f.builder.rows f.builder.table.now x y
       join_asks =
           let k = l.images.builds.done refl in
-          let n = r.images.builds.done refl in
-          record {
-            rows = ready_there.rows;
-            two = ready_there.two;
-            left = omega (arith, k.below, n.grew);
-            right = n.below;
-          }
+          let n = r.images.builds.done refl in (
+            ready_there,
+            record {
+              rows = ready_there.rows;
+              two = ready_there.two;
+              left = omega (arith, k.below, n.grew);
+              right = n.below;
+            },
+          )
 
       pub joined_later :
           {g : Builder} {z : Result ℕ NoRoom}

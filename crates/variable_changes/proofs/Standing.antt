@@ -19,7 +19,7 @@ use Rattle.normal_form.proofs.Growth.{steady_give, steady_bind, steady_join}
 use Rattle.normal_form.proofs.Steady.{steady_deletes, steady_condition}
 use Rattle.task.specs.Semantics.{Effect, sets, clears}
 use Rattle.formula_builder.specs.declared.Frame.{Frame}
-use Rattle.formula_builder.specs.Inner.Held.{Size, Step, Store, held, size_of, done_step, JoinReady, Builds}
+use Rattle.formula_builder.specs.Inner.Held.{Size, Step, Store, held, size_of, done_step, Ready, JoinReady, Builds}
 use Rattle.formula_builder.proofs.Steps.{builds_stands, within_before}
 use Rattle.images.specs.Inner.Images.{Memo, Images}
 use Rattle.images.proofs.Memos.{done_grows}
@@ -228,10 +228,11 @@ module _ {notes : List ℕ} (frame : Frame) (formulas effects : List ℕ) (at : 
       unfolding tree
       negated-full q = conditions_as freed (conditions_stop (λ c. join plain d c) (λ c. steady_join plain d c) x q)
 
-      pub negated-join-asks : n.full ≡ false → JoinReady frame.rows n.rows after.table d n.row
+      -- Both tables are ready there, and the rows to be joined.
+      pub negated-join-asks : n.full ≡ false → Ready frame (size_of n) after × JoinReady frame.rows n.rows after.table d n.row
       negated-join-asks q =
           let k = x.builds.done q in
-          record { rows = k.ready.rows; two = k.ready.two; left = omega (arith, k.grew, row); right = k.below }
+          (k.ready, record { rows = k.ready.rows; two = k.ready.two; left = omega (arith, k.grew, row); right = k.below })
 
       pub negated-joined :
           {last : Store} {z : Step}
