@@ -1,3 +1,4 @@
 pub mod Asked
 pub mod Batched
 pub mod Parted
+pub mod SmallTask

@@ -4,6 +4,19 @@ ghost use Rattle.std.specs.Prelude.{◌≤◌};
 use crate::{Counts, Filled, NoRoom, finish};
 use formula_builder::{Builder, Frame};
 use rule_writer::store;
+use task::MOST_OPERATORS;
+
+// Two variables, the first with a twin; room for a row and a twin more than are built.
+const FRAME: Frame = Frame {
+    variables: 2,
+    formulas: 1,
+    effects: 1,
+    rows: 5,
+    twins: 2,
+};
+
+// Three words for each of 256 operators and 2,048 changes.
+const RECORDS: usize = 6912;
 
 // What is left in tables that have words to spare: 7 or 9 in those that are written last, 0 in the other two. Behind what was built stand 8s.
 #[derive(Drop)]
@@ -16,34 +29,27 @@ struct Left {
     written: [u16; 5],
 }
 
-// Finishes a task of two variables, the first with a twin, and of one operator, which sets it under row 1 and clears it under row 2.
+// Finishes a task of one operator, which sets variable 0 under row 1 and clears it under row 2.
 fn finished(room: usize) -> Left
     requires { (1 ≤ room) × (room ≤ 12) }
 {
-    let frame = Frame {
-        variables: 2,
-        formulas: 1,
-        effects: 1,
-        rows: 5,
-        twins: 2,
-    };
     let counts = Counts {
-        frame,
+        frame: FRAME,
         operators: 1,
         goal: 0,
         room,
     };
     let b = Builder {
-        frame,
+        frame: FRAME,
         rows: 4,
         twins: 1,
         table: &mut [0, 0, 0, 1, 0, 0, 2, 2, 0, 2, 0, 0, 8],
         originals: &mut [0, 8],
     };
     // Operator 0 has precondition 2, and its changes end at 1; behind the records of operators, change 0 is of variable 0, with A 1 and D 2.
-    let mut records = [0; 6912];
+    let mut records = [0; RECORDS];
     store(&mut records, 0, 2, 1, 0);
-    store(&mut records, 256, 0, 1, 2);
+    store(&mut records, MOST_OPERATORS as usize, 0, 1, 2);
     let mut left = Left {
         answer: Err(NoRoom),
         values: [7; 4],
